@@ -1,4 +1,4 @@
--- What the functions of a solver hand on to those that they call.
+-- What the functions of a solver pass to those that they call.
 use Rattle.std.proofs.Common.{◌≡◌, ◌∙◌, ℕ, ◌≤◌, ◌+◌, ◌==◌, ◌++◌, true, List, [], ◌∷◌, length, ap, arith}
 use Rattle.std.specs.Prelude.{Contains, Some, option_and_then}
 use Rattle.std.specs.List.{list_any}
@@ -15,7 +15,7 @@ module _ {K R : Type 0} (g : Setting K R) where
   pub edge_among : (e : NodeEdge) → IsEdge g e → is_cut g.is_followed e ≡ true → (ns : List ℕ) → HasEachCut g ns → list_any (λ n. e.node == n) ns ≡ true
   edge_among e is cut ns each = All-contains (λ e. is_cut g.is_followed e ≡ true → list_any (λ n. e.node == n) ns ≡ true) (node_edges (g.nodes.entries is.0)) e (each is.0 is.1) is.2 cut
 
-  -- what an edge leads to may be asked where the number may
+  -- the target of an edge may be evaluated if the number may
   pub may_cross : (c : Solver) (s : Subject) (p : Place) (i : ℕ) (e : NodeEdge) → MaySolve g c s p i → Contains (node_edges (g.nodes.entries i)) e → MaySolve g c s p e.node
   may_cross c s p i e may is = record {
     known = (may.ranked i may.known e is).0;

@@ -1,4 +1,4 @@
--- A keyword that tells at once what it asks, in each reading of texts: how it begins, goes on after each answer, and ends.
+-- A keyword that asks its questions up front, in each reading of texts: how it begins, goes on after each answer, and ends.
 use Rattle.std.proofs.Common.{◌≡◌, ◌∙◌, ◌||◌, ◌&&◌, not, Bool, true, false, List, [], ◌∷◌, ℕ, refl, sym, subst, ap, true≢false}
 use Rattle.std.proofs.lemmas.Bool.{or_right}
 use Rattle.serde_json.specs.View.{view}
@@ -35,7 +35,7 @@ module _ (accepts : Question → Bool) (q : Question) (rest : List Question) whe
       no_after false b h = refl
   later_otherwise false is = or_right (accepts q) _ is
 
--- ---- where a yes leans
+-- ---- if a "valid" is provisional
 
 first_leans : (all l k : Bool) → (all && l) ≡ true → (all && (l || k)) ≡ true
 first_leans true true k is = refl
@@ -51,7 +51,7 @@ leans_twice : (all l : Bool) → (all && l) ≡ true → (all && (all && l)) ≡
 leans_twice true l is = is
 leans_twice false l is = is
 
--- ---- what is asked
+-- ---- the questions
 
 -- an asking puts questions unless turns say the verdict, or a match does
 pub puts_unless : (a : Asking) → ¬ (a ≡ asking.ByTurns) → ((pattern : _) (text : _) → ¬ (a ≡ asking.Match pattern text)) → puts_questions a ≡ true
@@ -101,7 +101,7 @@ module _ {K R : Type 0} (g : Setting K R) (laws : (texts : Bool) → EachKeeps (
       let w : Solving K R = solving_in g (view d.root) texts in
       says texts tells (edges_by w p answers) (fits_consistent w p (solvable_in g laws ranked (view d.root) texts) (found_of d) (b && k) answers fits)
 
-  -- where it was as it has to be
+  -- if it was as it has to be
   pub question_goes_on : b ≡ all → InEach g (view d.root) (λ texts w. SaysByTheRest w p (found_of d) m es all (l || k) rest)
   question_goes_on is texts tells =
       let w : Solving K R = solving_in g (view d.root) texts in
@@ -114,14 +114,14 @@ module _ {K R : Type 0} (g : Setting K R) (laws : (texts : Bool) → EachKeeps (
         ends = λ answers other. was.ends answers (later_otherwise (child_by w p (edges_by w p answers) es) q rest all other);
       }
 
-  -- and where it was not
+  -- and if it was not
   pub question_ends : b ≡ not all → InEach g (view d.root) (λ texts w. FormTells w p (found_of d) (node_keyword m es) b k)
   question_ends is texts tells answers fits =
       let w : Solving K R = solving_in g (view d.root) texts in
       let was : SaysByTheRest w p (found_of c) m es all l (q ∷ rest) = said_before texts tells in
       was.ends answers (first_otherwise (child_by w p (edges_by w p answers) es) q rest all (answered texts tells answers fits ∙ is)) ∙ sym is
 
--- ---- where none is left
+-- ---- if none is left
 
 pub questions_end : {K R : Type 0} (g : Setting K R) (c : Solver) (p : Place) (m : K) (es : Children) (all l : Bool)
     → InEach g (view c.root) (λ texts w. SaysByTheRest w p (found_of c) m es all l []) → InEach g (view c.root) (λ texts w. FormTells w p (found_of c) (node_keyword m es) all (all && l))

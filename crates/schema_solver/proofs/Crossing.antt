@@ -1,4 +1,4 @@
--- What falls with each question of a solver, and what the functions of edges and of pairs are asked and say.
+-- What falls with each question of a solver, and the questions and answers of the functions of edges and of pairs.
 use Rattle.std.proofs.Common.{◌≡◌, ◌∙◌, ℕ, suc, ◌<◌, ◌≤◌, ◌==◌, ◌++◌, ◌||◌, ◌&&◌, not, Bool, true, false, inl, inr, List, [], ◌∷◌, length, refl, sym, subst, ap, arith, true≢false}
 use Rattle.std.specs.Prelude.{Contains, None, Some, drop, take}
 use Rattle.std.specs.List.{list_any}
@@ -88,7 +88,7 @@ module _ {K : Type 0} (nodes : Nodes K) (count : ℕ) where
 pub cut_guards : (is_followed : ℕ → Bool) (e : NodeEdge) → is_cut is_followed e ≡ false → e.guarded ≡ false
 cut_guards is_followed e free = false_from_ne_true e.guarded (λ is. true≢false (sym (or_left e.guarded (not (is_followed e.node)) is) ∙ free))
 
--- ---- a pair is in progress where its number is at its place
+-- ---- a pair is in progress if its number is at its place
 
 turned : (a b : Bool) → (a && b) ≡ (b && a)
 turned true true = refl
@@ -105,7 +105,7 @@ busy_has i p (e ∷ es) = among-pair i p e es ∙ ap (λ b. b || list_any (λ k.
 pub at_pair : {m i : ℕ} {q p : Place} {d c : Solver} → (F : ℕ → Place → Solver → Type 0) → m ≡ i → q ≡ p → d ≡ c → F m q d → F i p c
 at_pair {m = m} {i = i} {q = q} {p = p} {d = d} {c = c} F node place same h = subst (λ k. F k p c) node (subst (λ r. F m r c) place (subst (λ z. F m q z) same h))
 
--- ---- what the function of a pair is asked and does
+-- ---- the question and the effect of the function of a pair
 
 module _ {K R : Type 0} (g : Setting K R) (old : Solver) (s : Subject) (p : Place) (i : ℕ) (may : MaySolve g old s p i) where
   -- what is found of a pair is what it says
@@ -123,7 +123,7 @@ module _ {K R : Type 0} (g : Setting K R) (old : Solver) (s : Subject) (p : Plac
       ∙ ap (λ busy. suc (left g.nodes g.count i s busy)) (sym (ap (busy_at p) begins.in_progress ∙ busy-pushed p i old.in_progress))
 
 module _ {K R : Type 0} (g : Setting K R) (old : Solver) (p : Place) (i : ℕ) where
-  -- the pair is asked for by its own node and place, over a context that is the same
+  -- the pair is requested by its own node and place, over the same context
   pub pair_new : (m : ℕ) (q : Place) (c : Solver) → m ≡ i → q ≡ p → c ≡ old
       → verdict_of m q c.verdicts ≡ None → has_pair c.in_progress m q ≡ false → has_pair c.assumed m q ≡ false
       → (n : ℕ) → number_of q (solver_places old) ≡ Some n → OwnNumbers (solver_places old) → ((ns : List ℕ) → HasEachCut g ns → list_any (λ k. i == k) ns ≡ true)
@@ -289,7 +289,7 @@ module _ {K R : Type 0} (g : Setting K R) (p : Place) (c d : Solver) (went : Goe
   pub entry_refuses : (k : Bool) → InEach g (view d.root) (λ texts w. FormTells w p (found_of d) x.form false k) → InEach g (view d.root) (λ texts w. PartsTell w p (found_of d) all false k)
   entry_refuses k says texts tells answers fits = (said_before texts tells).refuses answers (ap (λ b. b && parts_by (solving_in g (view d.root) texts) p answers rest) (says texts tells answers fits))
 
--- one of those that are left, behind some that wait, tells at once
+-- one of the remaining entries, after some that wait, needs no questions
 module _ {K R : Type 0} (g : Setting K R) (p : Place) (c : Solver) (all pre : List (NodePart K)) (x : NodePart K) (rest : List (NodePart K))
     (so_far : InEach g (view c.root) (λ texts w. SaysTheRest w p (found_of c) false all (pre ++ x ∷ rest))) where
   abbrev by_all : Solving K R → EdgeAnswers → List (NodePart K) → Bool
@@ -324,7 +324,7 @@ module _ {K R : Type 0} (g : Setting K R) (p : Place) (c : Solver) (all pre : Li
   pub told_refuses : InEach g (view c.root) (λ texts w. FormTells w p (found_of c) x.form false false) → InEach g (view c.root) (λ texts w. PartsTell w p (found_of c) all false false)
   told_refuses says texts tells answers fits = (so_far texts tells).refuses answers (stopped (solving_in g (view c.root) texts) answers pre (says texts tells answers fits))
 
--- those that are left say of all what they say, where those before say yes and lean on nothing
+-- all have the verdict of the remaining ones, if those before have a final "valid"
 module _ {K R : Type 0} (g : Setting K R) (p : Place) (c d : Solver) (went : Goes g p c d) (all rest : List (NodePart K))
     (so_far : InEach g (view c.root) (λ texts w. SaysTheRest w p (found_of c) false all rest)) where
   leans_on_nothing : (b : Bool) → false ≡ true → b ≡ true
@@ -339,7 +339,7 @@ module _ {K R : Type 0} (g : Setting K R) (p : Place) (c d : Solver) (went : Goe
   pub last_says : (x : NodePart K) → rest ≡ x ∷ [] → (b k : Bool) → InEach g (view d.root) (λ texts w. FormTells w p (found_of d) x.form b k) → InEach g (view d.root) (λ texts w. PartsTell w p (found_of d) all b k)
   last_says x is b k says = rest_says b k (λ texts tells answers fits. ap (parts_by (solving_in g (view d.root) texts) p answers) is ∙ and-true _ ∙ says texts tells answers fits)
 
--- ---- a keyword that tells its verdict at once
+-- ---- a keyword that decides without questions
 
 module _ {K R : Type 0} (g : Setting K R) (laws : (texts : Bool) → EachKeeps (g.words texts)) (c : Solver) (s : Subject) (p : Place) (i : ℕ) (may : MaySolve g c s p i) where
   pub solvable_here : (root : Data) (texts : Bool) → IsSolvable (solving_in g root texts)

@@ -66,7 +66,7 @@ module _ {K R : Type 0} (g : Setting K R) where
     within = λ most limit few. second.within most limit (first.within most limit few);
   }
 
-  -- a step at a place below is one of what is asked there
+  -- a step at a place below is one of the question there
   pub goes_below : (p : Place) (b : Below) (c c' : Solver) → Goes g (place_below p b) c c' → Goes g p c c'
   goes_below p b c c' went = record {
     root = went.root;
@@ -80,7 +80,7 @@ module _ {K R : Type 0} (g : Setting K R) where
     within = went.within;
   }
 
-  -- what may be asked may be asked after a step
+  -- a question that may be asked may be asked after a step
   pub may_after : (p : Place) (c c' : Solver) (s : Subject) (i : ℕ) → MaySolve g c s p i → Goes g p c c' → MaySolve g c' s p i
   may_after p c c' s i may went = record {
     known = may.known;
@@ -107,7 +107,7 @@ module _ {K R : Type 0} (g : Setting K R) where
   pub fresh_staged : (v : Value) → IsStagedIn g (fresh v)
   fresh_staged v texts tells = nothing_staged (solving_in g (view v) texts)
 
-  -- so any number of the table may be asked of the root place
+  -- so any number of the table may be evaluated at the root place
   pub fresh_may : (v : Value) (i : ℕ) → i < g.count → Ranked g.nodes g.count → FinishesEach g.matcher → MaySolve g (fresh v) (a_value (view v)) [] i
   fresh_may v i known ranked finishes = record {
     known = known;
@@ -118,7 +118,7 @@ module _ {K R : Type 0} (g : Setting K R) where
     sound = fresh_staged v;
   }
 
-  -- where it goes on it stays within the limit, and a limit that is met is below the bound
+  -- while it goes on it stays within the limit, and a limit that is reached is below the bound
   pub root_within : (v : Value) (c : Solver) → StaysWithin g (fresh v) c → IfSome g.most (λ most. c.begun ≤ most)
   root_within v c within = if_some g.most (λ most limit. within most limit (omega arith))
     where
@@ -143,7 +143,7 @@ module _ {K R : Type 0} (g : Setting K R) where
     staged : InEach g (view v) (λ texts w. IsStaged w (found_of c))
     staged = subst (λ u. InEach g (view u) (λ texts w. IsStaged w (found_of c))) went.root went.sound
 
-    -- what leans on nothing may lean
+    -- a final verdict may count as a provisional one
     may_lean : (w : Solving K R) (f : Found) (b k : Bool) → Tells w f i [] b k → Tells w f i [] b true
     may_lean w f true k tells answers fits = tells answers (lean_less f k true answers (λ is. refl) fits)
     may_lean w f false k tells answers fits = tells answers fits
@@ -155,11 +155,11 @@ module _ {K R : Type 0} (g : Setting K R) where
         let said : InEach g (view v) (λ texts w. Tells w (found_of c) i [] b k) = subst (λ u. InEach g (view u) (λ texts w. Tells w (found_of c) i [] b k)) went.root says in
         solver_says_guarded w (solvable texts) i [] b l (found_of c, staged texts tells, (λ j q. ap (λ es. has_pair es j q) went.in_progress), may_lean w (found_of c) b k (said texts tells)) path n low
 
-    -- it is what it says under each set between what is answered yes and what is not refused
+    -- it is the verdict under each set between what is accepted and what is not refused
     pub end_rests : (b k : Bool) → InEach g (view c.root) (λ texts w. Tells w (found_of c) i [] b k) → RestsOnFound g c i b
     end_rests b k says texts tells = tells_under_sets (solving_in g (view c.root) texts) (found_of c) i [] b (may_lean (solving_in g (view c.root) texts) (found_of c) b k (says texts tells))
 
-    -- what is held is so, where each keyword is monotone
+    -- everything in the context is true, if each keyword is monotone
     pub end_sound : IsSoundIn g c
     end_sound monotone = subst (λ u. InEach g (view u) (λ texts w. IsSound w (found_of c))) (sym went.root) (λ texts tells. staged_is_sound (solving_in g (view v) texts) (solvable texts) (monotone texts) (found_of c) (staged texts tells))
 

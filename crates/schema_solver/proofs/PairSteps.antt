@@ -34,7 +34,7 @@ deeper p (e ∷ es) above j q is = in_either (is_pair j q e) (has_pair es j q)
     (λ here. subst (λ r. length r ≤ length p) (this_place e.0 e.1 j q here) (All-head (λ (x : ℕ × Place). length x.1 ≤ length p) e es above))
     (λ later. deeper p es (All-tail (λ (x : ℕ × Place). length x.1 ≤ length p) e es above) j q later) is
 
--- where a pair is not among some, and none of others is, none of the others and the pair is
+-- if a pair is not among some, and none of others is, none of the others and the pair is
 pushed_apart : (i : ℕ) (p : Place) (old more : Pairs) → has_pair old i p ≡ false → ((j : ℕ) (q : Place) → has_pair more j q ≡ true → has_pair old j q ≡ false)
     → (j : ℕ) (q : Place) → has_pair (more ++ (i, p) ∷ []) j q ≡ true → has_pair old j q ≡ false
 pushed_apart i p old more free apart j q is = in_either (is_this i p j q) (has_pair more j q)
@@ -64,7 +64,7 @@ module _ {K R : Type 0} (g : Setting K R) (old : Solver) (p : Place) (i : ℕ) w
         let few = min-le_left (old.begun + 1) 18446744073709551615 in
         omega (arith, begins.begun, few, more))
 
-    -- so where no more may be begun, the limit is below the bound
+    -- so if no more may be begun, the limit is below the bound
     pub late_here : (most : ℕ) → g.most ≡ Some most → most ≤ old.begun → IsLate g old
     late_here most limit full = record {
       most = most;
@@ -74,7 +74,7 @@ module _ {K R : Type 0} (g : Setting K R) (old : Solver) (p : Place) (i : ℕ) w
           omega (arith, bound, full);
     }
 
-    -- and where a limit is met once it is begun
+    -- and if a limit is reached once it is begun
     pub late_begun : (b : Solver) → Begins i p old b → IsLate g b → IsLate g old
     late_begun b begins late = record {
       most = late.most;
@@ -148,7 +148,7 @@ module _ {K R : Type 0} (g : Setting K R) (laws : (texts : Bool) → EachKeeps (
       none_deeper : NoneDeeper p (found_of old)
       none_deeper = deeper p old.in_progress may.above
 
-      -- a reading in which texts are not spoken of
+      -- a reading in which texts are not covered
       silent : TellsAll false (view old.root) g.is_whole g.nodes g.count
       silent = record { keywords = λ is. absurd (true≢false (sym is)); instance = λ is. absurd (true≢false (sym is)) }
 
@@ -192,7 +192,7 @@ module _ {K R : Type 0} (g : Setting K R) (laws : (texts : Bool) → EachKeeps (
         pub refused_says : (k : Bool) → PairTells (found_of n) i p false k
         refused_says k = subst (λ f. PairTells f i p false k) (sym found_no) (no_says (In false) silent_w (found_of old) (found_of e) i p may.known (may.sound false silent) (sound_e false silent) grew_e k)
 
-      -- ---- after a yes beside another pair in progress at its place
+      -- ---- after a "valid" beside another pair in progress at its place
 
       module _ (leans : Bool) (says : Says true leans) (k : ℕ) (beside : has_pair old.in_progress k p ≡ true) (pushed : n.assumed ≡ e.assumed ++ (i, p) ∷ []) (verdicts : n.verdicts ≡ e.verdicts) where
         found_assumes : found_of n ≡ after_yes (found_of old) (found_of e) i p
@@ -216,7 +216,7 @@ module _ {K R : Type 0} (g : Setting K R) (laws : (texts : Bool) → EachKeeps (
           within = within_n;
         }
 
-      -- ---- after a yes that leans on nothing, beside another
+      -- ---- after a final "valid", beside another
 
       module _ (says : Says true false) (k : ℕ) (beside : has_pair old.in_progress k p ≡ true) (same : n.assumed ≡ e.assumed) (kept : Remembers i p true e.verdicts n.verdicts) where
         found_free : found_of n ≡ after_yes_free (found_of old) (found_of e) i p
@@ -240,7 +240,7 @@ module _ {K R : Type 0} (g : Setting K R) (laws : (texts : Bool) → EachKeeps (
           within = within_n;
         }
 
-      -- ---- after a yes of the only pair in progress at its place
+      -- ---- after a "valid" of the only pair in progress at its place
 
       module _ (leans : Bool) (says : Says true leans) (none_at : NoneAt p (found_of old)) (dropped : n.assumed ≡ old.assumed) (settles : SettlesAll ((i, p) ∷ went.more) e.verdicts n.verdicts) where
         found_alone : found_of n ≡ after_yes_alone (found_of old) (found_of e) i p

@@ -22,7 +22,7 @@ leans_is_no_limit is = cc
 memory_is_no_limit : ¬ (OutOfMemory ≡ Limit)
 memory_is_no_limit is = cc
 
--- for either reason it is at no yes that leans
+-- for either reason it is not because of a provisional "valid"
 pub not_leaning : (e : Stopped) → (e ≡ OutOfMemory) ⊎ (e ≡ Limit) → ¬ (e ≡ Leans)
 not_leaning e (inl is) leans = cc
 not_leaning e (inr is) leans = cc
@@ -44,7 +44,7 @@ module _ {K R : Type 0} (g : Setting K R) (says : K → Bool) where
     late = stops.late;
   }
 
-  -- for want of memory
+  -- for lack of memory
   pub stops_for_memory : (c c' : Solver) → StaysWithin g c c' → Stops g says c c' OutOfMemory
   stops_for_memory c c' within = record {
     reason = λ each. inl refl;
@@ -55,7 +55,7 @@ module _ {K R : Type 0} (g : Setting K R) (says : K → Bool) where
   pub stops_here : (c : Solver) → Stops g says c c OutOfMemory
   stops_here c = stops_for_memory c c (λ most limit few. few)
 
-  -- where no more may be begun
+  -- if no more may be begun
   pub stops_full : (c : Solver) (p : Place) (i : ℕ) → IsNew g c p i → (most : ℕ) → g.most ≡ Some most → most ≤ c.begun → Stops g says c c Limit
   stops_full c p i is_new most limit full = record {
     reason = λ each. inr refl;
@@ -71,7 +71,7 @@ module _ {K R : Type 0} (g : Setting K R) (says : K → Bool) where
     late = λ is. late_begun g a p i is_new b begins (stops.late is);
   }
 
-  -- at a yes that leans, of a keyword alone that does not say that it is monotone
+  -- because of a provisional "valid", only for a keyword that does not say that it is monotone
   pub stops_leaning : (i : ℕ) (m : K) (es : Children) → i < g.count → HasForm g.nodes i (node_keyword m es) → says m ≡ false
       → (p : Place) (c c' : Solver) → Goes g p c c' → Stops g says c c' Leans
   stops_leaning i m es l form silent p c c' went = record {

@@ -1,4 +1,4 @@
--- What is told of a question, and what is known of it where a loop goes on after it, and where it ends.
+-- The answer to a question, and what is known of it if a loop goes on after it, and if it ends.
 use Rattle.std.proofs.Common.{◌≡◌, ◌∙◌, ◌&&◌, not, Bool, true, false, refl, subst, true≢false}
 use Rattle.std.proofs.lemmas.Bool.{not-false, not-true}
 use Rattle.std.specs.Prelude.{Err, Ok, Result}
@@ -31,7 +31,7 @@ other_than : (s : WhatIsSaid) (all : Bool) → ends_with (Ok s) all ≡ true →
 other_than s true is = not-true s.valid is
 other_than s false is = is
 
--- a yes alone leans
+-- only a "valid" is provisional
 pub leans_once : (b leans : Bool) → (b && (b && leans)) ≡ (b && leans)
 leans_once true leans = refl
 leans_once false leans = refl
@@ -41,7 +41,7 @@ pub solved_at : {K R T : Type 0} (g : Setting K R) (says : K → Bool) (p : Plac
     → Solved g says p c d told says_this → told ≡ same → Solved g says p c d same says_this
 solved_at g says p c d told same says_this solved is = subst (λ r. Solved g says p c d r says_this) is solved
 
--- it is told where a loop ends after it: it says otherwise, and this of all, or nothing
+-- a loop ends after it: it has the other verdict, which is the one of all, or none
 module _ {K R : Type 0} (g : Setting K R) (says : K → Bool) (p : Place) (a c d : Solver) (went : Goes g p a c) (marking : c.marking ≡ a.marking) where
   pub ends_after : (told : Result WhatIsSaid Stopped) (all : Bool) (says_this says_that : WhatIsSaid → Solving K R → Found → Type 0) → ends_with told all ≡ true
       → ((s : WhatIsSaid) → s.valid ≡ not all → Goes g p c d → InEach g (view d.root) (λ texts w. says_this s w (found_of d)) → InEach g (view d.root) (λ texts w. says_that s w (found_of d)))

@@ -48,7 +48,7 @@ pub begun_with : {K R : Type 0} (g : Setting K (R × Answer)) (s : Subject) (m :
     → ((texts : Bool) → (g.words texts).begin m s for_verdict ≡ (run, fresh for_verdict)) → ((texts : Bool) → answer_of texts a ≡ fresh for_verdict) → HasBegun g s m run a
 begun_with g s m run a begins is texts = begins texts ∙ ap (λ b. (run, b)) (sym (is texts))
 
--- so does one of a number, where each does
+-- so does one of a number, if each does
 pub keyword_says : {K R : Type 0} (g : Setting K R) (says : K → Bool) (i : ℕ) (m : K) (es : Children) → EachSays says g.nodes g.count → i < g.count → HasForm g.nodes i (node_keyword m es) → says m ≡ true
 keyword_says g says i m es each l form = All-contains (λ m. says m ≡ true) (node_words (g.nodes.entries i)) m (each i l) (keyword_in g.nodes i m es form)
 
@@ -83,7 +83,7 @@ module _ {K R : Type 0} (g : Setting K R) where
       = λ i. record { root = (sym root) i; in_progress = (sym pairs) i; assumed = (sym assumed) i; verdicts = (sym verdicts) i; marking = c'.marking; begun = (sym begun) i } in
       subst (Goes g p c) same (with_marks p c c'.marking (goes_none g p c sound))
 
-  -- what was said is said still after a step; a no leans no more or less
+  -- a verdict is still so after a step; an "invalid" is no more provisional
   pub says_after : (q : Place) (c c' : Solver) → Goes g q c c' → (p : Place) (x : NodeForm K) (b l : Bool) (v : Bool → Bool) → ((texts : Bool) → b ≡ v texts)
       → InEach g (view c.root) (λ texts w. FormTells w p (found_of c) x (v texts) l) → InEach g (view c'.root) (λ texts w. FormTells w p (found_of c') x b (b && l))
   says_after q c c' went p x b l v is says = subst (λ u. InEach g (view u) (λ texts w. FormTells w p (found_of c') x b (b && l))) (sym went.root)
@@ -93,7 +93,7 @@ module _ {K R : Type 0} (g : Setting K R) where
       twice w true tells answers fits = tells answers (grows_fits_same q (found_of c) (found_of c') went.grew l answers fits)
       twice w false tells answers fits = tells answers (grows_fits_same q (found_of c) (found_of c') went.grew false answers fits)
 
-  -- a reading in which texts are spoken of lets a keyword of the table speak of them
+  -- if texts are covered in a reading, so are those of a keyword of the table
   pub tells_there : (c : Solver) (s : Subject) (p : Place) (i : ℕ) (m : K) (es : Children) → MaySolve g c s p i → HasForm g.nodes i (node_keyword m es)
       → (texts : Bool) → TellsAll texts (view c.root) g.is_whole g.nodes g.count → Tells texts (g.is_whole m) s
   tells_there c s p i m es may form texts tells =
@@ -109,7 +109,7 @@ module _ {K R : Type 0} (g : Setting K R) where
     abbrev pub Stepped : (r : Bool → R) (reply : Bool → Reply) → Turn → Type 0
     Stepped r reply t = (texts : Bool) → Tells texts (g.is_whole m) s → (g.words texts).step m s (r texts) (reply texts) ≡ t
 
-    -- with a reply that is what it is told
+    -- with the reply that it gets
     pub turned_by : (r r' : Bool → R) (reply reply' : Bool → Reply) → ((texts : Bool) → reply texts ≡ reply' texts) → Turned r r' reply → Turned r r' reply'
     turned_by r r' reply reply' is turned texts tells = ap ((g.words texts).turn m s (r texts)) (sym (is texts)) ∙ turned texts tells
 
@@ -148,7 +148,7 @@ module _ {K R : Type 0} (g : Setting K R) where
         go zero low asks = absurd (omega (arith, low))
         go (suc n) low asks = subst AsksVerdict step asks.0
 
-    -- ---- it stands well by all that edges may answer
+    -- ---- it is in a good state for all answers of the edges
 
     module _ (keeps : (texts : Bool) → EachKeeps (g.words texts)) (c0 : Solver) (p : Place) (i : ℕ) (may : MaySolve g c0 s p i) (es : Children) (form : HasForm g.nodes i (node_keyword m es)) where
       abbrev here_in : Bool → Solving K R
@@ -246,7 +246,7 @@ module _ {K R : Type 0} (g : Setting K R) where
           (λ texts tells given consistent. sym left)
           (λ texts tells given consistent. refl)
 
-      -- as it ends: what is found is what the keyword says, which is so of a monotone keyword alone where it leans
+      -- as it ends: the verdict found is the keyword's; if it is provisional, only for a monotone keyword
       pub leads_ended : (c : Solver) → c.root ≡ c0.root → IsStagedIn g c → (l : Bool) (marks : List Marked) (r r' : Bool → R) (reply : Bool → Reply) (valid : Bool → Bool)
           → Turned s m r r' reply → Stepped s m r reply done → ((texts : Bool) → ((g.words texts).answer (r' texts)).verdict ≡ valid texts)
           → Leads c l marks r reply → InEach g (view c.root) (λ texts w. (l ≡ true → IsMonotone w.keywords m) → FormTells w p (found_of c) (node_keyword m es) (valid texts) l)

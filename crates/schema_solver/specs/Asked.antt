@@ -1,4 +1,4 @@
--- What a solver is made with and asked, as data.
+-- The parts and the questions of a solver, as data.
 use Rattle.std.specs.Prelude.{Bool, List, None, false, length, slice_index_or, ℕ}
 use Rattle.theory_definitions.specs.Keywords.{Answer, Keywords}
 use Rattle.theory_definitions.specs.Matching.{Matcher}
@@ -8,7 +8,7 @@ use Rattle.schema_node_table.specs.NodeTable.{NodeEntry, numbered}
 use Rattle.schema_solver.specs.declared.question.SolverEngine.{SolverEngine}
 use Rattle.schema_solver.specs.Solving.{Setting}
 
--- whether a number is one that is followed
+-- whether a number is inlined
 abbrev pub is_followed_in : List Bool → ℕ → Bool
 is_followed_in followed i = slice_index_or followed i false
 
@@ -28,6 +28,6 @@ solver_over words is_whole shape ns followed matcher = record {
 abbrev pub solver_of : {K R C M : Type 0} → (Bool → Keywords K R) → (K → Bool) → (C → K) → (M → Matcher) → SolverEngine C M → Setting K R
 solver_of words is_whole shape matching e = record (solver_over words is_whole shape e.nodes.now e.followed.now (matching e.matcher.now)) { most = e.most }
 
--- the same by all that a keyword's type and a matcher's say of themselves
+-- the same, by all members of the keyword type's and the matcher type's traits
 abbrev pub solver_by : {C R K M : Type 0} → keyword.Ghosts C R K → matcher.Ghosts M → SolverEngine C M → Setting K (R × Answer)
 solver_by k m e = solver_of k.words k.is_whole k.shape m.matching e

@@ -1,5 +1,5 @@
--- What the functions of a solver are asked and answer: by the values of the program, and by what the types of its keywords and of its
--- matcher say of themselves.
+-- The questions and answers of a solver's functions, by the values of the program, and by the
+-- members of its keyword type and matcher type.
 use Rattle.std.specs.Prelude.{[], Bool, IfErr, IfOk, IfSome, List, Option, Result, is_some, length, true, ℕ, ◌≡◌, ◌≤◌, ◌⊎◌}
 use Rattle.serde_json.specs.Data.{object}
 use Rattle.serde_json.specs.View.{members_view, view}
@@ -33,15 +33,15 @@ use Rattle.schema_solver.specs.TurningOn.{HasBegun}
 
 -- ---- what is found of a root
 
--- this is so of a verdict, where one is found
+-- this holds of a verdict, if one is found
 abbrev pub IfFound : {A E : Type 0} → Result (Option A) E → (A → Type 0) → Type 0
 IfFound result Holds = IfOk result (λ found. IfSome found Holds)
 
--- this is so where it stops at the limit
+-- this holds if the solver stops at the limit
 abbrev pub IfAtLimit : {A : Type 0} → Result A Stopped → Type 0 → Type 0
 IfAtLimit result Holds = IfErr result (λ e. e ≡ stopped.Limit → Holds)
 
--- ---- what is asked, and what is told
+-- ---- questions and answers
 
 -- the instance is an object with these members
 abbrev pub HasMembers : Asked → Entries → Type 0
@@ -52,7 +52,8 @@ module _ {C R K : Type 0} (k : keyword.Ghosts C R K) where
   abbrev pub EachSaysMonotone : {M : Type 0} → SolverEngine C M → Type 0
   EachSaysMonotone e = EachSays k.says_monotone (numbered k.shape e.nodes.now) (length e.nodes.now)
 
-  -- the keyword says what the answers of these questions say: whether all of them accept, or one does
+  -- the keyword has the verdict that the answers to these questions give: all of them have to
+  -- accept, or one has to
   abbrev pub SaysBy : C → Asked → Bool → List Question → Type 0
   SaysBy c q all questions = SaysByQuestions k.words k.is_whole (subject_of q.instance) (k.shape c) all questions
 
@@ -65,7 +66,7 @@ module _ {C R K M : Type 0} (k : keyword.Ghosts C R K) (m : matcher.Ghosts M) (e
   abbrev pub CanAsk : Wanted K → Solver → Type 0
   CanAsk wanted c = MayAsk (solver_by k m e) q wanted c
 
-  -- and is answered by what is told
+  -- and this is the answer
   abbrev pub Answers : Wanted K → Solver → Solver → Result WhatIsSaid Stopped → Type 0
   Answers wanted old new told = Solves (solver_by k m e) k.says_monotone q wanted old new told
 
@@ -77,7 +78,7 @@ module _ {C R K M : Type 0} (k : keyword.Ghosts C R K) (m : matcher.Ghosts M) (e
   abbrev pub AnswersByTurns : NamedKeyword C → Solver → Solver → Result Bool Stopped → code_answer.Answer → Type 0
   AnswersByTurns named old new told answer = Turns (solver_by k m e) k.says_monotone q k.shape named old new told (λ texts. (answer_of texts answer).verdict)
 
--- the pair of what is asked may be begun: nothing is found of it
+-- the pair of the question may begin: nothing is known of it
 pub record PairMayBegin {C R K M : Type 0} (k : keyword.Ghosts C R K) (m : matcher.Ghosts M) (e : SolverEngine C M) (q : Asked) (i : ℕ) (p : SolverPair) (c : Solver) : Type 0 where
   pub may_ask : CanAsk k m e q (a_pair i) c
   pub node : p.node.0 ≡ i
@@ -88,7 +89,8 @@ pub record PairMayBegin {C R K M : Type 0} (k : keyword.Ghosts C R K) (m : match
   pub idle : IsIdle p c
   pub free : IsFree p c
 
--- what is found of a node of an instance at its root place, and what the context holds then; and why nothing is found
+-- the verdict of a node of an instance at its root place, and the facts in the context then; or why
+-- there is no verdict
 pub record SolvesRoot {C R K M : Type 0} (k : keyword.Ghosts C R K) (m : matcher.Ghosts M) (e : SolverEngine C M) (v : Value) (i : ℕ) (c : Solver) (result : Result (Option Bool) Stopped) : Type 0 where
   pub exactly : EachSaysMonotone k e → IfOk result (λ found. is_some found ≡ true)
   pub says : IfFound result (SaysAsNodes (solver_by k m e) (view v) i)

@@ -1,5 +1,5 @@
--- How deep the questions of a solver have to go, how the entries of a node and what a keyword asks at once stand between two of them, and what
--- a pair's run leaves.
+-- How deep the questions of a solver have to go; the state of a node's entries, and of the
+-- questions that a keyword asks up front, between two of them; and the effect of a pair's run.
 use Rattle.std.specs.List.{list_any}
 use Rattle.std.specs.Prelude.{Bool, List, [], false, length, not, suc, true, ℕ, ◌&&◌, ◌++◌, ◌==◌, ◌∷◌, ◌≡◌}
 use Rattle.serde_json.specs.View.{view}
@@ -19,32 +19,37 @@ use Rattle.schema_solver_state.specs.Answering.{Begins}
 use Rattle.schema_solver_state.specs.Saying.{WhatIsSaid}
 use Rattle.schema_solver.specs.Solving.{Goes, HasRoom, InEach, IsNew, Setting}
 
--- for a pair: none where it is in progress
+-- for a pair: none if it is in progress
 abbrev pub pair_needs : {K : Type 0} → Nodes K → ℕ → ℕ → Subject → List ℕ → ℕ
 pair_needs nodes count i s busy = elim (list_any (λ k. k == i) busy) [ true ↦ 0 | false ↦ suc (left nodes count i s (i ∷ busy)) ]
 
--- for an edge: those of its pair where it is answered by what is found, and else of the number that it leads to
+-- for an edge: those of its pair if that is looked up, and else those of the number that it leads
+-- to
 abbrev pub edge_needs : {K : Type 0} → (NodeEdge → Bool) → Nodes K → ℕ → NodeEdge → Subject → List ℕ → ℕ
 edge_needs cut nodes count e s busy = elim (cut e) [ true ↦ pair_needs nodes count e.node s busy | false ↦ suc (left nodes count e.node s busy) ]
 
--- all entries say what those say that are left, leaning on what is answered yes for now where one of the others does; and no, where those say no
+-- for answers that fit the facts, provisional ones if one of the others is, all entries have the
+-- verdict of the remaining ones; and for any answers, they are invalid if the remaining ones are
 pub record SaysTheRest {K R : Type 0} (w : Solving K R) (p : Place) (f : Found) (leans : Bool) (all rest : List (NodePart K)) : Type 0 where
   pub same : (answers : EdgeAnswers) → Fits f leans answers → parts_by w p answers all ≡ parts_by w p answers rest
   pub refuses : (answers : EdgeAnswers) → parts_by w p answers rest ≡ false → parts_by w p answers all ≡ false
 
--- in each reading in which it may tell its texts, this is what the keyword asks of the subject, as it tells at once
+-- in each reading in which its texts are covered, these are the questions that the keyword asks up
+-- front about the subject
 abbrev pub TellsWhatItAsks : {K R : Type 0} → Setting K R → Subject → K → Asking → Type 0
 TellsWhatItAsks g s m a = (texts : Bool) → MayTell texts (g.is_whole m) s → HoldsAsTold (g.words texts) m s a
 
--- the keyword says what the answers of those questions say that are left, where all have to accept leaning on what is answered yes for now
--- where one of the others does; and once those say otherwise than they have to, so does it
+-- for answers that fit the facts, provisional ones if all have to accept and one of the others is
+-- provisional, the keyword has the verdict of the remaining questions; and for any answers, once
+-- those have the other verdict, so does the keyword
 pub record SaysByTheRest {K R : Type 0} (w : Solving K R) (p : Place) (f : Found) (m : K) (es : Children) (all leans : Bool) (rest : List Question) : Type 0 where
   pub same : (answers : EdgeAnswers) → Fits f (all && leans) answers
       → form_by w p (edges_by w p answers) (node_keyword m es) ≡ answers_say all (child_by w p (edges_by w p answers) es) rest
   pub ends : (answers : EdgeAnswers) → answers_say all (child_by w p (edges_by w p answers) es) rest ≡ not all
       → form_by w p (edges_by w p answers) (node_keyword m es) ≡ not all
 
--- a pair that was new was begun, as one more might be, its node was run and said this, and the pair was left
+-- a new pair was begun, as one more was allowed; its node was run and had this answer; and the pair
+-- was left
 pub record PairRan {K R : Type 0} (g : Setting K R) (old begun end left : Solver) (p : Place) (i mark : ℕ) (s : WhatIsSaid) : Type 0 where
   pub is_new : IsNew g old p i
   pub room : HasRoom g old

@@ -1,10 +1,10 @@
--- Each keyword of each node says of itself that it is monotone. References say nothing against it.
+-- Each keyword of each node says that it is monotone. References count as monotone.
 use Rattle.std.specs.List.{list_all}
 use Rattle.std.specs.Prelude.{Bool, List, Some}
 use Rattle.theory_definitions.specs.Guarded.{NodeForm}
 use Rattle.theory_meaning.specs.Fractions.{form_words, node_words}
 use Rattle.schema_node_table.specs.NodeTable.{NodeEntry, plan_in}
--- each keyword of these numbers says so
+-- each keyword of these numbers says that it is monotone
 pub use Rattle.schema_solver.specs.Solving.{EachSays}
 
 module _ {K : Type 0} (says : K → Bool) where

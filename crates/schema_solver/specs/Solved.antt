@@ -1,4 +1,4 @@
--- What the functions of a solver's cycle are asked, and what they leave and say: one record for each.
+-- The questions of the functions in a solver's cycle, and their results: one record for each.
 use Rattle.std.specs.List.{list_any}
 use Rattle.std.specs.Prelude.{Bool, IfErr, IfOk, List, Option, Result, map, option_map, true, ℕ, ◌==◌, ◌≡◌, ◌⊎◌}
 use Rattle.serde_json.specs.View.{view}
@@ -30,7 +30,8 @@ use Rattle.schema_solver.specs.declared.question.Stopped.{Stopped}
 use Rattle.schema_solver.specs.declared.question.Stopped.TheVariants.{Limit, OutOfMemory}
 use Rattle.schema_solver.specs.Solving.{EachSays, Goes, HasEachCut, InEach, IsEdge, IsLate, MaySolve, Setting, StaysWithin}
 
--- what is asked at a place: a number, and as a pair; entries of one, the form of an entry, a keyword's child; and what an edge leads to
+-- a question at a place: a number, and the same as a pair; entries of a node, the form of an entry,
+-- a keyword's child; and an edge
 pub data Wanted (K : Type 0) : Type 0 where
   a_node a_pair : ℕ → Wanted K
   some_parts : ℕ → List (NodePart K) → Wanted K
@@ -38,7 +39,7 @@ pub data Wanted (K : Type 0) : Type 0 where
   a_child : ℕ → Children → Question → Wanted K
   an_edge : NodeEdge → Wanted K
 
--- the number that it is asked of
+-- the number that the question is about
 abbrev pub number_in : {K : Type 0} → Wanted K → ℕ
 number_in (a_node i) = i
 number_in (a_pair i) = i
@@ -47,7 +48,7 @@ number_in (a_form i form) = i
 number_in (a_child i es q) = i
 number_in (an_edge e) = e.node
 
--- it stands in the table, and a child's place in the subject
+-- that number is in the table, and a child's place is in the subject
 abbrev pub StandsIn : {K R : Type 0} → Setting K R → Subject → Wanted K → Type 0
 StandsIn g s (a_node i) = Unit {0}
 StandsIn g s (a_pair i) = (ns : List ℕ) → HasEachCut g ns → list_any (λ n. i == n) ns ≡ true
@@ -56,7 +57,7 @@ StandsIn g s (a_form i form) = HasForm g.nodes i form
 StandsIn g s (a_child i es q) = HasChildren g.nodes i es × IsPresent s (steps_below q.below)
 StandsIn g s (an_edge e) = IsEdge g e
 
--- what is said of it
+-- the verdict of the question
 abbrev pub says_of : {K R : Type 0} → Wanted K → Solving K R → Place → Found → WhatIsSaid → Type 0
 says_of (a_node i) w p f s = Tells w f i p s.valid s.leans
 says_of (a_pair i) w p f s = PairTells f i p s.valid s.leans
@@ -65,33 +66,36 @@ says_of (a_form i form) w p f s = FormTells w p f form s.valid s.leans
 says_of (a_child i es q) w p f s = ChildTells w p f es q s.valid s.leans
 says_of (an_edge e) w p f s = EdgeTells w p f e here s.valid s.leans
 
--- it may be asked
+-- the question may be asked
 pub record MayAsk {K R : Type 0} (g : Setting K R) (q : Asked) (a : Wanted K) (c : Solver) : Type 0 where
   pub may : MaySolve g c (subject_of q.instance) (steps_to q.place.now) (number_in a)
   pub carries : CarriesItsNumber (solver_places c) q.place.now
   pub stands : StandsIn g (subject_of q.instance) a
 
--- why it stops, and what it leaves: for want of memory or at the limit alone, where each keyword says that it is monotone; no more begun than
--- may be; and it stops at a limit alone that is less than what may be begun at most
+-- why it stops, and in which state: only because of memory or the limit, if each keyword says that
+-- it is monotone; no more pairs were begun than allowed; and it stops only at a limit that is less
+-- than the bound on pairs
 pub record Stops {K R : Type 0} (g : Setting K R) (says_monotone : K → Bool) (c c' : Solver) (e : Stopped) : Type 0 where
   pub reason : EachSays says_monotone g.nodes g.count → (e ≡ OutOfMemory) ⊎ (e ≡ Limit)
   pub within : StaysWithin g c c'
   pub late : e ≡ Limit → IsLate g c
 
--- what a result leaves and says: what it does to the context, where the marks stay, what is true of it in each reading, and why it stops
+-- a result: its effect on the context, the marks unchanged, what is true of it in each reading, and
+-- why it stops
 pub record Solved {K R T : Type 0} (g : Setting K R) (says_monotone : K → Bool) (p : Place) (c c' : Solver) (result : Result T Stopped) (says_this : T → Solving K R → Found → Type 0) : Type 0 where
   pub goes : IfOk result (λ _. Goes g p c c')
   pub marking : IfOk result (λ _. c'.marking ≡ c.marking)
   pub says : IfOk result (λ b. InEach g (view c'.root) (λ texts w. says_this b w (found_of c')))
   pub stops : IfErr result (Stops g says_monotone c c')
 
--- and of turns, which leave marks; their answer may differ by the reading, and is said where it leans of a monotone keyword alone
+-- the result of turns, which leave marks; the answer may differ by the reading, and a provisional
+-- one counts only if the keyword is monotone
 pub record Turned {K R : Type 0} (g : Setting K R) (says_monotone : K → Bool) (p : Place) (c c' : Solver) (result : Result Bool Stopped) (m : K) (says_this : Bool → Bool → Solving K R → Found → Type 0) : Type 0 where
   pub goes : IfOk result (λ _. Goes g p c c')
   pub says : IfOk result (λ leans. InEach g (view c'.root) (λ texts w. (leans ≡ true → IsMonotone w.keywords m) → says_this texts leans w (found_of c')))
   pub stops : IfErr result (Stops g says_monotone c c')
 
--- what was asked is answered
+-- the question is answered
 abbrev pub Solves : {K R : Type 0} → Setting K R → (K → Bool) → Asked → Wanted K → Solver → Solver → Result WhatIsSaid Stopped → Type 0
 Solves g says_monotone q a c c' result = Solved g says_monotone (steps_to q.place.now) c c' result (λ s w f. says_of a w (steps_to q.place.now) f s)
 
@@ -110,7 +114,7 @@ the_entry shape i e = a_form i (shaped_form shape (form_of e.form))
 abbrev pub the_keyword : {C K : Type 0} → (C → K) → ℕ → NamedKeyword C → Wanted K
 the_keyword shape i k = a_form i (form_at_work shape k)
 
--- a keyword that asks, with its children
+-- a keyword that asks questions, with its children
 abbrev pub the_asker : {C K : Type 0} → (C → K) → ℕ → C → List (Option Edge) → Wanted K
 the_asker shape i k es = a_form i (node_keyword (shape k) (map (option_map edge_of) es))
 

@@ -1,4 +1,5 @@
--- What each function of a solver's cycle is asked, what it does to the context, and what it says.
+-- The questions of the functions in a solver's cycle, their effect on the context, and their
+-- answers.
 use Rattle.std.specs.List.{list_any}
 use Rattle.std.specs.Prelude.{All, Bool, Contains, List, None, Option, Some, [], false, length, not, suc, true, ℕ, ◌++◌, ◌<◌, ◌==◌, ◌||◌, ◌≡◌, ◌≤◌}
 use Rattle.serde_json.specs.Data.{Data}
@@ -21,8 +22,8 @@ use Rattle.theory_fixed_points.specs.Stages.{IsStaged}
 use Rattle.theory_fixed_points.specs.Work.{EachOnce, IsBoundedBy, IsCounted, pairs_of}
 use Rattle.schema_solver_state.specs.Contexts.{Solver, found_of, has_pair, solver_places}
 
--- what a solver is made with: the keywords as they are read, the numbered nodes, how many there are, which of them are followed, the
--- matcher, and how many pairs it may begin, where there is a limit
+-- the parts of a solver: the keywords as they are read, the numbered nodes, how many there are,
+-- which of them are inlined, the matcher, and how many pairs it may begin, if there is a limit
 pub record Setting (K R : Type 0) : Type 0 where
   pub words : Bool → Keywords K R
   pub is_whole : K → Bool
@@ -32,7 +33,8 @@ pub record Setting (K R : Type 0) : Type 0 where
   pub matcher : Matcher
   pub most : Option ℕ
 
--- an edge whose pair is answered by what is found: a guarded one, and one that leads to a number that is not followed
+-- an edge whose pair is looked up in the context: it is guarded, or leads to a number that is not
+-- inlined
 abbrev pub is_cut : (ℕ → Bool) → NodeEdge → Bool
 is_cut is_followed e = e.guarded || not (is_followed e.node)
 
@@ -41,7 +43,7 @@ abbrev pub EachSays : {S : Type 0} → (S → Bool) → Nodes S → ℕ → Type
 EachSays says nodes count = (i : ℕ) → i < count → All (λ m. says m ≡ true) (node_words (nodes.entries i))
 
 module _ {K R : Type 0} (g : Setting K R) where
-  -- what is solved in a reading of texts; no match stays unfinished, so one completion is as good as another
+  -- what is solved in a reading of texts; no match stays unfinished, so one outcome is as good as another
   abbrev pub solving_in : Data → Bool → Solving K R
   solving_in root texts = record {
     keywords = g.words texts;
@@ -57,38 +59,39 @@ module _ {K R : Type 0} (g : Setting K R) where
   abbrev pub InEach : Data → (Bool → Solving K R → Type 0) → Type 0
   InEach root fact = (texts : Bool) → TellsAll texts root g.is_whole g.nodes g.count → fact texts (solving_in root texts)
 
-  -- what a context holds was told by stages
+  -- everything that a context holds was found in stages
   abbrev pub IsStagedIn : Solver → Type 0
   IsStagedIn c = InEach (view c.root) (λ texts w. IsStaged w (found_of c))
 
-  -- so where each keyword is monotone it is so of every set that stands by itself
+  -- so if each keyword is monotone it is so of every set that supports itself
   abbrev pub IsSoundIn : Solver → Type 0
   IsSoundIn c = ((texts : Bool) → AreMonotone (g.words texts) g.nodes g.count) → InEach (view c.root) (λ texts w. IsSound w (found_of c))
 
-  -- each number that an edge leads to whose pair is answered by what is found
+  -- all numbers that an edge leads to whose pair is looked up
   abbrev pub HasEachCut : List ℕ → Type 0
   HasEachCut ns = (i : ℕ) → i < g.count → All (λ e. is_cut g.is_followed e ≡ true → list_any (λ n. e.node == n) ns ≡ true) (node_edges (g.nodes.entries i))
 
-  -- no more pairs were begun than what the pairs may have cost, before and so after
+  -- at most as many pairs were begun as the pairs may have cost; if so before, then so after
   abbrev pub StaysCounted : Solver → Solver → Type 0
   StaysCounted c c' = (ns : List ℕ) → HasEachCut ns → IsCounted (pairs_of ns (solver_places c)) (length ns) (found_of c) c.begun
       → IsCounted (pairs_of ns (solver_places c)) (length ns) (found_of c') c'.begun
 
-  -- fewer pairs were begun than may be, where there is a limit
+  -- fewer pairs were begun than may be, if there is a limit
   abbrev pub HasRoom : Solver → Type 0
   HasRoom c = (most : ℕ) → g.most ≡ Some most → c.begun < most
 
-  -- no more pairs are begun than may be, where no more were before
+  -- if no more pairs were begun than allowed, then no more are
   abbrev pub StaysWithin : Solver → Solver → Type 0
   StaysWithin c c' = (most : ℕ) → g.most ≡ Some most → c.begun ≤ most → c'.begun ≤ most
 
-  -- a limit is met that is less than what may be begun at most: where the count is right, even one pair more than it is no more than that
+  -- a limit is reached that is less than the bound on pairs: if the count is right, even one pair
+  -- more than the limit is within the bound
   pub record IsLate (c : Solver) : Type 0 where
     pub most : ℕ
     pub limit : g.most ≡ Some most
     pub within_bound : (ns : List ℕ) → HasEachCut ns → IsCounted (pairs_of ns (solver_places c)) (length ns) (found_of c) c.begun → IsBoundedBy ns (solver_places c) (suc most)
 
-  -- a number of the table may be asked of a subject at a place
+  -- a number of the table may be evaluated for a subject at a place
   pub record MaySolve (c : Solver) (s : Subject) (p : Place) (i : ℕ) : Type 0 where
     pub known : i < g.count
     pub ranked : Ranked g.nodes g.count
@@ -97,8 +100,8 @@ module _ {K R : Type 0} (g : Setting K R) where
     pub stands : subject_at (view c.root) p ≡ Some s
     pub sound : IsStagedIn c
 
-  -- what is in progress stays, more is assumed that was not, what is known stays known, what is found is told by stages still, the count
-  -- right, and within the limit
+  -- what is in progress stays so, only new pairs are assumed, known verdicts stay known, everything
+  -- is still found in stages, the count is right, and it is within the limit
   pub record Goes (p : Place) (c c' : Solver) : Type 0 where
     pub root : c'.root ≡ c.root
     pub in_progress : c'.in_progress ≡ c.in_progress
@@ -119,7 +122,7 @@ pub record Leaves (old end new : Solver) : Type 0 where
   pub marking : new.marking ≡ end.marking
   pub begun : new.begun ≡ end.begun
 
--- nothing is found of the pair, it may be begun, and no place of the instance stands twice among its places
+-- nothing is known of the pair, it may begin, and the places of the instance are all different
 pub record IsNew {K R : Type 0} (g : Setting K R) (c : Solver) (p : Place) (i : ℕ) : Type 0 where
   pub unknown : verdict_of i p c.verdicts ≡ None
   pub idle : has_pair c.in_progress i p ≡ false
@@ -130,8 +133,9 @@ pub record IsNew {K R : Type 0} (g : Setting K R) (c : Solver) (p : Place) (i : 
 
 -- ---- what it says in the end
 
--- what is said of a number of an instance at its root place: what nodes say under guards with no pair in progress, in each reading of
--- texts, by any path and at every depth that is enough, where no match stays unfinished
+-- the verdict of a number of an instance at its root place: it is what the nodes say under guards
+-- with no pair in progress, in each reading of texts, by any path and at every depth that is
+-- enough, if no match stays unfinished
 abbrev pub SaysAsNodes : {K R : Type 0} → Setting K R → Data → ℕ → Bool → Type 0
 SaysAsNodes g root i b = InEach g root (λ texts w. (path : Text) (n : ℕ) → left g.nodes g.count i (subject_in root []) [] < n
     → (guarded_within yes_outcome (node_outcome w.keywords w.matcher w.nodes (subject_in root) w.completion) n i path [] []).verdict ≡ b)
@@ -142,16 +146,16 @@ HoldsAsNodes g c = InEach g (view c.root) (λ texts w. (i : ℕ) (p : Place) (v 
     → (path : Text) (n : ℕ) → left g.nodes g.count i (subject_in w.instance p) [] < n
     → (guarded_within yes_outcome (node_outcome w.keywords w.matcher w.nodes (subject_in w.instance) w.completion) n i path p []).verdict ≡ v)
 
--- what is said of a number at the root place is what it says under each set that has all pairs that a context holds as answered yes, and
--- none that it holds as refused
+-- the verdict of a number at the root place is what it says under each set that has all pairs that
+-- the context accepts, and none that it refuses
 abbrev pub RestsOnFound : {K R : Type 0} → Setting K R → Solver → ℕ → Bool → Type 0
 RestsOnFound g c i b = InEach g (view c.root) (λ texts w. SaysUnder w (found_of c) i [] b)
 
--- so many pairs are begun at most: of the numbers that an edge leads to whose pair is answered by what is found, and of the places
+-- at most that many pairs are begun: of the numbers whose pairs are looked up, and of the places
 abbrev pub BeginsFew : {K R : Type 0} → Setting K R → Value → ℕ → Type 0
 BeginsFew g v begun = (ns : List ℕ) → HasEachCut g ns → IsBoundedBy ns (root_places v) begun
 
--- a limit is less than what may be begun at most: even one pair more than it is no more than that
+-- a limit is less than the bound on pairs: even one pair more than the limit is within the bound
 abbrev pub LimitWithinBound : {K R : Type 0} → Setting K R → Value → ℕ → Type 0
 LimitWithinBound g v limit = BeginsFew g v (suc limit)
 

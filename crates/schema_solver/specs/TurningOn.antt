@@ -1,4 +1,5 @@
--- A keyword's run for the verdict that a solver answers: how it has begun, and how it stands between two turns.
+-- A keyword's run for the verdict, answered by a solver: how it has begun, and its state between
+-- two turns.
 use Rattle.std.specs.Prelude.{Bool, List, false, ℕ, ◌<◌, ◌≡◌}
 use Rattle.serde_json.specs.Data.{Data}
 use Rattle.theory_definitions.specs.Instance.{Place, Subject}
@@ -17,10 +18,11 @@ abbrev pub HasBegun : {K R : Type 0} → Setting K (R × Answer) → Subject →
 HasBegun g s m run a = (texts : Bool) → (g.words texts).begin m s for_verdict ≡ (run, answer_of texts a)
 
 module _ {K R : Type 0} (g : Setting K R) (m : K) where
-  -- in the turns that are left it asks for verdicts, whatever is replied
+  -- in its remaining turns the run requests verdicts, whatever the replies are
   abbrev pub AsksOn : Subject → ℕ → R → Reply → Type 0
   AsksOn s turns r reply = (n : ℕ) × (turns < n) × AlwaysAsksVerdict (g.words false) m s n r reply
 
-  -- in each reading it stands well by all that edges may answer which is as what it was told, of which no yes leans more than this
+  -- in each reading the run is in a good state for all answers of the edges that are as those it
+  -- got, of which no "valid" is provisional more than this
   abbrev pub TurnsOn : Data → Place → (Bool → Standing R → Answer) → (Bool → Standing R → Type 0) → Children → Solver → Bool → List Marked → (Bool → R) → (Bool → Reply) → Type 0
   TurnsOn root p end_of fits es c leans marks r reply = InEach g root (λ texts w. TurnsBy w p (found_of c) leans m (end_of texts) (fits texts) es marks (r texts) (reply texts))

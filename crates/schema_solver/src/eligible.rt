@@ -1,4 +1,4 @@
-//! Where a solver finds the verdicts of some nodes.
+//! The solver of some nodes, and the verdicts that it finds.
 ghost use Rattle.std.specs.Prelude.{◌≡◌, ◌<◌, ◌+◌, ◌&&◌, [], IfOk, IfSome, None, OnErr, false, is_some, length, true};
 ghost use Rattle.serde_json.specs.View.{view};
 ghost use Rattle.schema_solver_state.specs.Following.{IsFollowing};
@@ -25,7 +25,9 @@ use serde_json::Value;
 use std::alloc::{AllocError, Global};
 use std::marker::Model;
 
-/// A verdict that a solver found, and the context that it found it in: what the verdict rests on, and how many pairs were begun for it
+/// A verdict that a solver found, and the context in which it found it.
+///
+/// The context has the facts that the verdict rests on, and how many pairs were begun for it
 /// (`SolverContext::begun`).
 #[derive(Drop)]
 pub struct SolvedVerdict<'i> {
@@ -33,8 +35,10 @@ pub struct SolvedVerdict<'i> {
     pub context: SolverContext<'i>,
 }
 
-/// Finds the verdicts of some nodes by a solver, where the matcher finishes every match and the solver does not give up, and none
-/// elsewhere. Contracts see which numbers the solver follows, where there is one.
+/// Finds verdicts of some nodes.
+///
+/// It finds a verdict if the matcher finishes every match and the solver does not give up.
+/// Contracts see which numbers the solver inlines, if there is a solver.
 #[derive(Drop)]
 pub struct Solver {
     followed: Option<Followed>,
@@ -48,7 +52,7 @@ impl Model for Solver {
     ghost view = { λ f. f.followed };
 }
 
-// Says in a call's work that a solver stopped at its limit, where it did.
+// Records in a call's work that a solver stopped at its limit, if it did.
 fn stop_at_limit(work: &mut Work, stopped: Stopped)
     ensures limit { stopped ≡ Stopped.Limit → work.old.limited ≡ true → work.new ≡ record work.old { left = 0; stopped = true } }
     ensures other { stopped ≡ Stopped.OutOfMemory → work.new ≡ work.old }
@@ -61,14 +65,18 @@ fn stop_at_limit(work: &mut Work, stopped: Stopped)
 }
 
 impl Solver {
-    /// Returns the one that finds no verdict. It allocates nothing.
+    /// Returns a solver that finds no verdict.
     pub fn none() -> Solver
         ensures none { result ≡ None }
     {
         Solver { followed: None }
     }
 
-    /// Returns the one of these nodes. Fails only if memory cannot be allocated.
+    /// Returns the solver of these nodes.
+    ///
+    /// # Errors
+    ///
+    /// Out of memory.
     pub fn of<K: Validate>(alloc: Global, nodes: &Nodes<K>) -> Result<Solver, OutOfMemory>
         ensures made { Shows is_some result true }
         ensures follows { IfOk result (λ f. IfSome f (IsFollowing nodes.now)) }
@@ -79,7 +87,11 @@ impl Solver {
         })
     }
 
-    /// Returns the same once more. Fails only if memory cannot be allocated.
+    /// Returns a clone of the solver.
+    ///
+    /// # Errors
+    ///
+    /// Out of memory.
     pub fn clone(&self) -> Result<Solver, OutOfMemory>
         ensures same { Yields result self.now }
     {
@@ -91,16 +103,27 @@ impl Solver {
         }
     }
 
-    /// Returns the verdict of a node of the instance, where a solver finds it: where it may find verdicts of these nodes, the matcher is
-    /// said to finish every match, and it does not give up, which it never does where each keyword says that it is monotone. Elsewhere it
-    /// returns `None`. With the verdict it returns the context in which it was found, which speaks of this instance: each verdict that it
-    /// holds is what the nodes say, and the verdict is what the node says under each set with all pairs that the context answers yes and
-    /// none that it refused; where each keyword is monotone, all that it holds is so of every set that stands by itself. With g numbers
-    /// that a guarded edge leads to or that are not followed, and p places, that context began at most g * p * g pairs. (Which numbers
-    /// are followed changes nothing of what is said, so `says` names none.) The pairs that it begins are counted in the work; where this
-    /// has a limit, no more are begun than it has left. Fails if memory cannot be allocated, and then the work is as it was; and if one
-    /// more pair was to be begun than the work has left, and then the work says that it is stopped: so only where it has less than
-    /// g * p * g left.
+    /// Returns the verdict of a node of the instance, with the context in which it was found.
+    ///
+    /// It returns `None` if this solver finds no verdict, if the matcher is not said to finish
+    /// every match, or if the solver gives up, which it never does if each keyword says that it is
+    /// monotone.
+    ///
+    /// The context speaks of this instance. Each verdict in it is what the nodes say, and the
+    /// returned verdict is what the node says under each set that has all pairs the context accepts
+    /// and none that it refuses. If each keyword is monotone, everything in it is true of every set
+    /// that supports itself. With g numbers that a guarded edge leads to or that are not inlined,
+    /// and p places, the context began at most g * p * g pairs. Which numbers are inlined does not
+    /// change the verdict, so `says` names none.
+    ///
+    /// The call deducts the pairs that it begins from the work. If the work has a limit, it begins
+    /// no more than are left.
+    ///
+    /// # Errors
+    ///
+    /// Out of memory, and then the work is unchanged; or one more pair is needed than the work has
+    /// left, and then the work says that it is stopped. The second happens only if less than that
+    /// bound is left.
     pub fn verdict<'i, K: Validate, M: Matcher>(
         &self,
         alloc: Global,

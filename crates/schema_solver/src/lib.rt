@@ -1,5 +1,7 @@
-//! The verdict of numbered nodes over an instance by a solver. A number that chains of references return to, or meet at again, it begins
-//! at each place at most as often as there are numbers.
+//! Finds the verdict of numbered nodes over an instance.
+//!
+//! If chains of references return to a number, or meet at it, the solver begins that number at each
+//! place at most as often as there are numbers.
 #![tactic(auto)]
 
 pub mod eligible;

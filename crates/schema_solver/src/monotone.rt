@@ -1,4 +1,4 @@
-//! What the keywords of nodes say of themselves.
+//! Whether the keywords of nodes say that they are monotone.
 ghost use Rattle.std.specs.Prelude.{◌≡◌, ◌↔◌, Bool, length, true};
 ghost use Rattle.std.specs.List.{list_all};
 ghost use Rattle.schema_node_table.specs.declared.node.Entry.{Entry};
@@ -11,7 +11,7 @@ use schema_node_table::node::{Entry, EntryForm, Node, NodeForm, Nodes};
 use schema_traits::keyword::Validate;
 use schema_traits::numbers::SchemaNode;
 
-// Whether the keyword of an entry says that it is monotone; a reference counts as one that does.
+// Returns whether the keyword of an entry says that it is monotone; a reference counts as monotone.
 fn entry_says<K: Validate>(entry: &Entry<K>) -> bool
     ensures says { result ≡ form_says (λ k. K.says_monotone (K.shape k)) (form_of entry.now.form) }
 {
@@ -21,14 +21,12 @@ fn entry_says<K: Validate>(entry: &Entry<K>) -> bool
     }
 }
 
-// Whether each keyword of some entries does.
 fn entries_say<K: Validate>(entries: &[Entry<K>]) -> bool
     ensures says { result ≡ list_all (λ (e : Entry K). form_says (λ k. K.says_monotone (K.shape k)) (form_of e.form)) entries.now }
 {
     entries.iter().all(|entry| entry_says(entry))
 }
 
-// Whether each keyword of a node does.
 fn node_says<K: Validate>(node: &Node<K>) -> bool
     ensures says { result ≡ node_says (λ k. K.says_monotone (K.shape k)) (node_of node.now) }
 {
@@ -42,7 +40,6 @@ fn node_says<K: Validate>(node: &Node<K>) -> bool
     }
 }
 
-// Whether each keyword of each node does.
 fn table_says<K: Validate>(nodes: &Nodes<K>) -> bool
     ensures says { result ≡ table_says (λ k. K.says_monotone (K.shape k)) nodes.now }
 {
@@ -54,8 +51,9 @@ fn table_says<K: Validate>(nodes: &Nodes<K>) -> bool
     true
 }
 
-/// Returns whether each keyword of each node says of itself that it is monotone; references count as monotone. It allocates
-/// nothing.
+/// Returns whether each keyword of each node says that it is monotone.
+///
+/// References count as monotone.
 pub fn is_monotone<K: Validate>(nodes: &Nodes<K>) -> bool
     ensures exactly { (result ≡ true) ↔ EachSays K.says_monotone (numbered K.shape nodes.now) (length nodes.now) }
     ensures monotone { result ≡ true → (texts : Bool) → AreMonotone (K.words texts) (numbered K.shape nodes.now) (length nodes.now) }

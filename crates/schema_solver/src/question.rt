@@ -1,4 +1,4 @@
-//! What a solver is made with, what it is asked, and why it may stop.
+//! The parts of a solver, its questions, and the reasons why it may stop.
 ghost use Rattle.std.specs.Prelude.{◌≡◌};
 
 use schema_node_table::node::Nodes;
@@ -7,26 +7,28 @@ use schema_run_steps::evaluation_place::EvaluationPlace;
 use schema_solver_state::followed::Followed;
 use std::alloc::{AllocError, Global};
 
-/// What a solver is made with, and does not change.
+/// The parts that a solver is made with. It does not change them.
 #[derive_where(Clone, Copy)]
 pub struct SolverEngine<'r, K, M> {
     pub nodes: &'r Nodes<K>,
     pub alloc: Global,
     pub matcher: &'r M,
     pub followed: &'r Followed,
-    /// How many pairs it may begin, where there is a limit.
+    /// How many pairs it may begin, if there is a limit.
     pub most: Option<u64>,
 }
 
-/// What is asked, and where. A verdict shows no path.
+/// The instance that is evaluated, and its place. A verdict shows no path.
 #[derive(Clone, Copy)]
 pub struct Asked<'q, 'i> {
     pub instance: Instance<'i>,
     pub place: &'q EvaluationPlace<'q, 'i>,
 }
 
-/// Why a solver says nothing: memory could not be allocated; a keyword that does not say that it is monotone was told a yes that leans; or
-/// one more pair was to be begun than it may.
+/// Why a solver returns no verdict.
+///
+/// It is out of memory; or a keyword that does not say that it is monotone got a provisional
+/// "valid" (`Leans`); or it may begin no more pairs (`Limit`).
 #[derive(Clone, Copy)]
 pub enum Stopped {
     OutOfMemory,

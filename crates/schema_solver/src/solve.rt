@@ -19,15 +19,25 @@ use schema_traits::matcher::Matcher;
 use schema_traits::numbers::SchemaNode;
 use serde_json::Value;
 
-/// Returns the verdict of a node of an instance, at the root place: what the nodes say where a guarded pair that is in progress is
-/// answered yes; so the greatest solution, where each keyword is monotone. The matcher has to finish every match. `None` says that the
-/// solver gave up: a keyword that does not say that it is monotone was answered a yes that leans on a pair in progress or assumed. Where
-/// each says so, it does not give up. Nothing may have been found before: what a run found of another instance, or by other nodes, says
-/// nothing of this one. With a verdict the context keeps what was found, on which it rests: each verdict that it holds is what the nodes
-/// say; and how many pairs were begun: with g numbers that a guarded edge leads to or that are not followed, and p places, at most
-/// g * p * g pairs of such a number and a place. Where the engine has a limit, no more pairs are begun than that. Fails only with
-/// `OutOfMemory`, where memory cannot be allocated, and with `Limit`, where one more pair was to be begun than the limit allows: so only
-/// where the limit is less than g * p * g. Without a verdict pairs may be left in progress, and the context is of no more use.
+/// Returns the verdict of a node of an instance, at the root place.
+///
+/// It is what the nodes say if a guarded pair in progress counts as valid, so it is the greatest
+/// solution if each keyword is monotone. `None` means that the solver gave up, because a keyword
+/// that does not say that it is monotone got a provisional "valid", one that depends on a pair in
+/// progress or assumed. If each keyword says that it is monotone, the solver does not give up.
+///
+/// The matcher has to finish every match. The context has to be fresh, because what a run found of
+/// another instance or by other nodes says nothing here.
+///
+/// With a verdict, the context keeps the facts that it rests on, and each verdict in it is what the
+/// nodes say. With g numbers that a guarded edge leads to or that are not inlined, and p places, at
+/// most g * p * g pairs of such a number and a place were begun. Without a verdict, pairs may be
+/// left in progress, and the context is of no more use.
+///
+/// # Errors
+///
+/// `OutOfMemory`; or `Limit`, if the engine has a limit and one more pair is needed. That happens
+/// only if the limit is less than g * p * g.
 pub fn solve_root<'i, K: Validate, M: Matcher>(
     engine: &SolverEngine<'_, K, M>,
     node: SchemaNode,

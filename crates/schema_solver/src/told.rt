@@ -1,4 +1,4 @@
-//! What a solver tells of a question: what is said of it, or why it stopped.
+//! A solver's answer to a question: a verdict, or the reason why it stopped.
 ghost use Rattle.std.specs.Prelude.{◌≡◌, Err, Ok};
 ghost use Rattle.schema_solver_state.specs.Saying.{said_as, settled_as};
 ghost use Rattle.schema_solver.specs.Telling.{ends_with, leans_in};
@@ -7,7 +7,8 @@ use crate::question::Stopped;
 use schema_solver_state::said::Said;
 use std::marker::Model;
 
-// All that may be told. It takes one byte, so that a call whose answer is the caller's own can take the caller's room.
+// All possible answers. They fit into one byte, so that a call whose answer is the caller's own can
+// reuse the caller's stack frame.
 #[derive(Clone, Copy)]
 enum Answer {
     No,
@@ -18,7 +19,7 @@ enum Answer {
     Limit,
 }
 
-/// What is told of a question: its verdict, and whether this leans on a pair that is answered yes for now; or why nothing is said of it.
+/// A verdict that may be provisional, or the reason why there is none.
 #[derive(Drop)]
 pub(crate) struct Told {
     answer: Answer,
@@ -36,7 +37,7 @@ impl Model for Told {
 }
 
 impl Told {
-    /// Tells this verdict, which leans on nothing.
+    /// Returns the answer with this final verdict.
     #[inline(always)]
     pub(crate) fn settled(valid: bool) -> Told
         ensures told { result ≡ Ok (settled_as valid) }
@@ -46,7 +47,7 @@ impl Told {
         }
     }
 
-    /// Tells this verdict, and of a yes whether it leans.
+    /// Returns the answer with this verdict; a "valid" may be provisional.
     #[inline(always)]
     pub(crate) fn of(valid: bool, leans: bool) -> Told
         ensures told { result ≡ Ok (said_as valid leans) }
@@ -59,7 +60,7 @@ impl Told {
         Told::settled(valid)
     }
 
-    /// Tells what is said. Only a yes leans.
+    /// Returns the answer with this verdict. Only a "valid" can be provisional.
     #[inline(always)]
     pub(crate) fn said(said: Said) -> Told
         ensures told { result ≡ Ok (said_as said.valid said.leans) }
@@ -67,7 +68,7 @@ impl Told {
         Told::of(said.valid(), said.leans())
     }
 
-    /// Tells why nothing is said.
+    /// Returns the answer without a verdict, for this reason.
     #[inline(always)]
     pub(crate) fn stopped(why: Stopped) -> Told
         ensures told { result ≡ Err why }
@@ -81,12 +82,12 @@ impl Told {
         }
     }
 
-    /// Returns what is said, or why nothing is.
+    /// Returns the verdict, or the reason why there is none.
     #[inline(always)]
     pub(crate) fn result(self) -> Result<Said, Stopped>
         ensures same { result ≡ self }
     {
-        // (what says something is one case, so that a comparison tells it)
+        // (all verdicts are one case, so that one comparison recognizes them)
         match self.answer {
             Answer::OutOfMemory => Err(Stopped::OutOfMemory),
             Answer::Leans => Err(Stopped::Leans),
@@ -95,7 +96,9 @@ impl Told {
         }
     }
 
-    /// Returns whether nothing more is asked after it where each question has to be answered so: it says otherwise, or nothing.
+    /// Returns whether nothing more is evaluated if each answer has to have this verdict.
+    ///
+    /// It is so if the answer has the other verdict, or none.
     #[inline(always)]
     pub(crate) fn ends(&self, all: bool) -> bool
         ensures ends { result ≡ ends_with self.now all }
@@ -110,7 +113,8 @@ impl Told {
         }
     }
 
-    /// Returns whether it says a verdict that leans on a pair that is answered yes for now.
+    /// Returns whether the verdict is provisional: it depends on a pair that counts as valid for
+    /// now.
     #[inline(always)]
     pub(crate) fn leans(&self) -> bool
         ensures leans { result ≡ leans_in self.now }

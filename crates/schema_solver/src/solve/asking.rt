@@ -1,5 +1,7 @@
-//! The verdict of a keyword that tells at once what it asks, by a solver. Each way of asking is gone through by a call of its own form, so
-//! that what the way is need not be asked again at each question.
+//! The verdict of a keyword that asks its questions up front, by a solver.
+//!
+//! Each kind of asking has a function of its own, so that the kind need not be tested again at each
+//! question.
 ghost use Rattle.std.specs.Prelude.{◌≡◌, true};
 ghost use Rattle.serde_json.specs.Data.{object};
 ghost use Rattle.serde_json.specs.View.{members_view};
@@ -30,8 +32,9 @@ use schema_traits::matcher::Matcher;
 use schema_traits::numbers::{Edge, SchemaNode};
 use serde_json::{Map, Value};
 
-// The verdict of a keyword by what it asks at once, or else by its turns. Its children are lent as they are kept, in one word, so that what
-// a call by members is given fits into registers.
+// Returns the verdict of a keyword by the questions that it asks up front, or else by its turns.
+// Its children are passed as they are stored, in one word, so that the arguments of a call by
+// members fit into registers.
 #[cycle(verdict)]
 #[inline(always)]
 pub(crate) fn solve_asked<'i, K: Validate, M: Matcher>(
@@ -100,8 +103,9 @@ pub(crate) fn solve_asked<'i, K: Validate, M: Matcher>(
     }
 }
 
-// The verdict of a keyword by questions of its children here, or of items: where each has to be accepted, no more of them are asked after a
-// no, and where one of them has to be, none after a yes. A yes leans where one does that it rests on.
+// Returns the verdict of a keyword by questions of its children here, or of items. If all have to
+// accept, nothing is evaluated after an "invalid"; if one has to, nothing after a "valid". A
+// "valid" is provisional if one that it depends on is.
 #[cycle(verdict)]
 #[inline(always)]
 fn solve_counted<'i, K: Validate, M: Matcher>(
@@ -132,8 +136,8 @@ fn solve_counted<'i, K: Validate, M: Matcher>(
     Told::of(all, leans)
 }
 
-// The same by questions of its children at the members that have their names. Its room on the stack is its own, so that the other ways of
-// asking take less.
+// Does the same by questions of its children at the members that have their names. Not inlined, so
+// that the other kinds do not pay for its stack frame.
 #[cycle(verdict)]
 #[inline(never)]
 fn solve_members<'i, K: Validate, M: Matcher>(
@@ -167,7 +171,7 @@ fn solve_members<'i, K: Validate, M: Matcher>(
     Told::of(true, leans)
 }
 
-// The same by questions of its first child at the names of members. Its room on the stack is its own, too.
+// Does the same by questions of its first child at the names of members. Not inlined either.
 #[cycle(verdict)]
 #[inline(never)]
 fn solve_names<'i, K: Validate, M: Matcher>(
@@ -198,7 +202,8 @@ fn solve_names<'i, K: Validate, M: Matcher>(
     Told::of(true, leans)
 }
 
-// The verdict of a keyword's child, at what stands here or below; yes where its request got none.
+// Returns the verdict of a keyword's child, at this value or below it; "valid" if its request got
+// no child.
 #[cycle(verdict)]
 #[inline(always)]
 fn solve_there<'i, K: Validate, M: Matcher>(

@@ -1,4 +1,4 @@
-//! The verdict of what an edge leads to, and of a pair that is answered by what is found, by a solver.
+//! The verdict of an edge's target, and of a pair about which something may be known, by a solver.
 ghost use Rattle.std.specs.Prelude.{◌≡◌, ◌<◌, ◌≤◌, ℕ, IfErr, OnOk, Some};
 ghost use Rattle.schema_solver.specs.Solved.{a_pair, the_child, the_edge};
 ghost use Rattle.schema_solver.specs.Calls.{Answers, CanAsk, PairMayBegin};
@@ -14,7 +14,8 @@ use schema_traits::keyword::{Below, Validate};
 use schema_traits::matcher::Matcher;
 use schema_traits::numbers::{Edge, SchemaNode};
 
-// The verdict of a keyword's child, here or one step below; yes where its request got none.
+// Returns the verdict of a keyword's child, here or one step below; "valid" if its request got no
+// child.
 #[cycle(verdict)]
 pub(crate) fn solve_child<'i, K: Validate, M: Matcher>(
     engine: &SolverEngine<'_, K, M>,
@@ -45,8 +46,8 @@ pub(crate) fn solve_child<'i, K: Validate, M: Matcher>(
     }
 }
 
-// The verdict of the node that an edge leads to. Where the edge is guarded, and where its number is not followed, its pair is answered by
-// what is found.
+// Returns the verdict of the node that an edge leads to. If the edge is guarded, or its number is
+// not inlined, the pair is looked up first.
 #[cycle(verdict)]
 #[inline(always)]
 pub(crate) fn solve_edge<'i, K: Validate, M: Matcher>(
@@ -64,7 +65,7 @@ pub(crate) fn solve_edge<'i, K: Validate, M: Matcher>(
     solve_node(engine, edge.node, question, context)
 }
 
-// Lets one more pair be begun, or stops, where as many were begun as may be.
+// Lets one more pair begin, or stops if the limit on pairs is reached.
 #[inline(always)]
 fn may_begin<K, M>(
     engine: &SolverEngine<'_, K, M>,
@@ -81,8 +82,9 @@ fn may_begin<K, M>(
     Ok(())
 }
 
-// What is said of a pair: what is known of it, a yes that leans where it is in progress or assumed, and else what its node says. Most pairs
-// are answered by what is found, so what the others need has room on the stack of its own.
+// Returns the answer for a pair: its known verdict; a provisional "valid" if it is in progress or
+// assumed; and else the verdict of its node. Most pairs are known, so the rest is a function of its
+// own, and the fast path does not pay for its stack frame.
 #[cycle(verdict)]
 #[inline(never)]
 fn solve_pair<'i, K: Validate, M: Matcher>(
@@ -104,9 +106,12 @@ fn solve_pair<'i, K: Validate, M: Matcher>(
     begin_pair(engine, node, &pair, question, context)
 }
 
-// What is said of a pair of which nothing is found: what its node says, under which the pair is in progress; it stops where no more pairs
-// may be begun. A no is known for good, and what was assumed since is dropped; a yes is known for good, with all that was assumed since,
-// where no other pair is in progress at the place, and alone where it leans on nothing; else it is assumed.
+// Returns the answer for a pair about which nothing is known. The pair is in progress while its
+// node is evaluated; if no more pairs may begin, it stops.
+//
+// An "invalid" is remembered, and what was assumed since is dropped. A "valid" is remembered, with
+// all that was assumed since, if no other pair is in progress at the place. Otherwise it alone is
+// remembered if it is final, and assumed if it is provisional.
 #[cycle(verdict)]
 #[inline(never)]
 fn begin_pair<'i, K: Validate, M: Matcher>(

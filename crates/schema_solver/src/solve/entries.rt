@@ -16,7 +16,7 @@ use schema_traits::keyword::Validate;
 use schema_traits::matcher::Matcher;
 use schema_traits::numbers::{Edge, SchemaNode};
 
-// The verdict of a node at a place.
+// Returns the verdict of a node at a place.
 #[cycle(verdict)]
 #[inline(always)]
 pub(crate) fn solve_node<'i, K: Validate, M: Matcher>(
@@ -40,7 +40,7 @@ pub(crate) fn solve_node<'i, K: Validate, M: Matcher>(
     }
 }
 
-// Whether an entry holds of the instance, where its keyword tells so at once.
+// Returns whether an entry accepts the instance, if its keyword decides without questions.
 #[inline(always)]
 fn told_at_once<K: Validate>(entry: &Entry<K>, instance: Instance<'_>) -> Option<bool>
     ensures tells { IfSome result (TellsAtOnce K.words K.is_whole K.shape (subject_of instance.entry) entry.now) }
@@ -51,9 +51,10 @@ fn told_at_once<K: Validate>(entry: &Entry<K>, instance: Instance<'_>) -> Option
     }
 }
 
-// The verdict of the entries; no more of them are asked after a no. What a keyword tells at once is told here, also behind the first that
-// does not, so that a node of which nothing else is asked takes no room on the stack, and where one alone is to be asked, its call is the
-// last. Where there are more, they are asked one after another.
+// Returns the verdict of the entries; nothing is evaluated after an "invalid". Keywords that decide
+// without questions are evaluated here, even after the first one that has questions. So a node with
+// no other keywords needs no further stack frame, and if only one entry has questions, its call is
+// the last. If there are more, they are evaluated one after another.
 #[cycle(verdict)]
 #[inline(always)]
 fn solve_entries<'i, K: Validate, M: Matcher>(
@@ -93,8 +94,9 @@ fn solve_entries<'i, K: Validate, M: Matcher>(
     }
 }
 
-// The verdict of the entries, in their order; no more of them are asked after a no. A yes leans where one of theirs does. Its room on the
-// stack is its own.
+// Returns the verdict of the entries, in order; nothing is evaluated after an "invalid". A "valid"
+// is provisional if one of theirs is. Not inlined, so that the fast path does not pay for its stack
+// frame.
 #[cycle(verdict)]
 #[inline(never)]
 fn solve_left<'i, K: Validate, M: Matcher>(
@@ -119,7 +121,8 @@ fn solve_left<'i, K: Validate, M: Matcher>(
     Told::of(true, leans)
 }
 
-// The verdict of an entry's keyword, or of the node that its reference leads to. A keyword that tells it at once takes no run.
+// Returns the verdict of an entry's keyword, or of the node that its reference leads to. A keyword
+// that decides without questions takes no run.
 #[cycle(verdict)]
 fn solve_form<'i, K: Validate, M: Matcher>(
     engine: &SolverEngine<'_, K, M>,
@@ -142,7 +145,8 @@ fn solve_form<'i, K: Validate, M: Matcher>(
     }
 }
 
-// The verdict of an entry's keyword by what it asks at once, or by a run. Its room on the stack is its own.
+// Returns the verdict of an entry's keyword by the questions that it asks up front, or by a run.
+// Not inlined, so that the fast path does not pay for its stack frame.
 #[cycle(verdict)]
 #[inline(never)]
 fn solve_keyword<'i, K: Validate, M: Matcher>(
@@ -171,7 +175,8 @@ fn solve_keyword<'i, K: Validate, M: Matcher>(
     }
 }
 
-// The verdict of the node that a reference leads to. Its room on the stack is its own, so that a chain of references takes no more.
+// Returns the verdict of the node that a reference leads to. Not inlined, so that a chain of
+// references takes only small stack frames.
 #[cycle(verdict)]
 #[inline(never)]
 fn solve_reference<'i, K: Validate, M: Matcher>(
@@ -186,7 +191,8 @@ fn solve_reference<'i, K: Validate, M: Matcher>(
     solve_edge(engine, edge, question, context)
 }
 
-// The verdict of a node, with room on the stack of its own, so that what begins a pair has less.
+// Returns the verdict of a node. Not inlined, so that the function that begins a pair has a smaller
+// stack frame.
 #[cycle(verdict)]
 #[inline(never)]
 pub(crate) fn solve_node_apart<'i, K: Validate, M: Matcher>(

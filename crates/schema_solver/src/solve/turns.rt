@@ -19,8 +19,9 @@ use schema_traits::matcher::Matcher;
 use schema_traits::numbers::SchemaNode;
 use std::alloc::Global;
 
-// The verdict of a keyword by its run. The run begins with no marks; those of the run that asks are set aside until it has ended. What the
-// answer is dropped in has room on the stack of its own, as this room is taken once for each level of an instance.
+// Returns the verdict of a keyword by its run. The run begins without marks; those of the run
+// around it are set aside until it has ended. The answer is dropped in a function of its own,
+// because this stack frame is needed once for each level of an instance.
 #[cycle(verdict)]
 #[inline(never)]
 pub(crate) fn solver_answer<'i, K: Validate, M: Matcher>(
@@ -62,8 +63,9 @@ pub(crate) fn solver_answer<'i, K: Validate, M: Matcher>(
     }
 }
 
-// What is said of a keyword whose run found this verdict. Where one of the yeses leaned that it was told, this is so of a keyword alone
-// that says that it is monotone; of another it stops.
+// Returns the answer for a keyword whose run found this verdict. If the run depended on a
+// provisional "valid", a keyword that says that it is monotone has a provisional answer; for any
+// other keyword the solver stops.
 fn told_of<K: Validate>(keyword: &K, valid: bool, leans: bool) -> Told
     ensures said { IfOk result (λ s. (s ≡ said_as valid leans) × (leans ≡ true → K.says_monotone (K.shape keyword.now) ≡ true)) }
     ensures stops { IfErr result (λ e. (e ≡ Stopped.Leans) × (leans ≡ true) × (K.says_monotone (K.shape keyword.now) ≡ false)) }
@@ -74,7 +76,7 @@ fn told_of<K: Validate>(keyword: &K, valid: bool, leans: bool) -> Told
     Told::of(valid, leans)
 }
 
-// A run for the verdict that has begun.
+// Begins a run for the verdict.
 #[inline(always)]
 fn begun_run<K: Validate>(
     alloc: Global,
@@ -86,7 +88,8 @@ fn begun_run<K: Validate>(
     keyword.begin(alloc, instance, Mode::Verdict)
 }
 
-// The turns of a run that has begun, and its answer once they are done: whether one of the yeses leaned that it was told.
+// Takes the turns of a run that has begun, and returns its answer at the end, with whether it
+// depended on a provisional "valid".
 #[cycle(verdict)]
 fn solver_turns<'i, K: Validate, M: Matcher>(
     engine: &SolverEngine<'_, K, M>,
@@ -144,7 +147,8 @@ fn solver_turns<'i, K: Validate, M: Matcher>(
     }
 }
 
-// Whether a text is a pattern of ECMA-262. Its room on the stack is its own, so that a turn that asks for none pays nothing.
+// Returns whether a text is a pattern of ECMA-262. Not inlined, so that other turns do not pay for
+// its stack frame.
 #[inline(never)]
 fn is_pattern<K, M: Matcher>(
     engine: &SolverEngine<'_, K, M>,

@@ -78,7 +78,7 @@ lower_entered a c t l e = omega (arith, l, e)
 lower_begun : (a c t : ℕ) → a ≡ c → 20 * c + 1 ≡ t → 20 * a < t
 lower_begun a c t l e = omega (arith, l, e)
 
--- ---- what stands among the last entries stands among all
+-- ---- an entry among the last is among all
 
 part_before : {A B C : Type 0} (f : A → B) (g : B → C) (xs : List A) (n : ℕ) (y : C) → Contains (map g (map f (drop n xs))) y → Contains (map g (map f xs)) y
 part_before f g xs zero y is = is
@@ -259,7 +259,7 @@ edges::solve_child-returns-in-Some-one_below g t c = record {
   stops = search rules;
 }
 
--- ---- the entries of which all is told at once
+-- ---- entries that need no questions
 
 pub entries::solve_left-loop-entry-init : goal.entries::solve_left-loop-entry-init
 entries::solve_left-loop-entry-init g t c =
@@ -1253,7 +1253,7 @@ edges::begin_pair-returns-in-Err-keep_answer g t c =
     let ran = stops_for_memory set says old e (λ most limit few. solved.goes.within most limit (within_begun set old p i b begins room most limit few)) in
     rw c.stopped-in-Err-keep_answer.ensures.told (solved_none set says p old n _ _ (stops_still set says old e n _ ran (c.keep_answer.ensures.rest.begun ∙ c.exit.ensures.frame.begun)))
 
--- ---- what a keyword tells at once that it asks
+-- ---- the questions that a keyword asks up front
 
 pub asking::solve_asked-returns-in-Ok : goal.asking::solve_asked-returns-in-Ok
 asking::solve_asked-returns-in-Ok g t c = rw c.settled.ensures.told (record {
@@ -1326,7 +1326,7 @@ asking::solve_asked-solve_names-requires g t c =
     let says = says_by_questions set.words set.is_whole s m (asking.Names c.in-Names.members) asks refl true refl (at_their_names c.in-Names.members.now.entries) refl in
     λ κs h. (lower_same _ _ t 4 1 refl c.decreases, (h.0, (h.1.0, (h.1.1.0, (h.1.1.1, (may, (sym own, says)))))))
 
--- ---- the entries of which all is told at once
+-- ---- entries that need no questions
 
 pub entries::solve_entries-loop-place-init : goal.entries::solve_entries-loop-place-init
 entries::solve_entries-loop-place-init g t c =
