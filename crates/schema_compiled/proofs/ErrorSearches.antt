@@ -75,7 +75,7 @@ of_mapped : (P : Error → Type 0) (f : ValidationError → Error) (es : List Va
 of_mapped P f [] h = All-nil (λ e. P (f e))
 of_mapped P f (e ∷ es) h = All-cons (λ e. P (f e)) e es (All-head P (f e) (map f es) h) (of_mapped P f es (All-tail P (f e) (map f es) h))
 
--- errors that a completion gives
+-- errors that an outcome produces
 given_of : (v : Sense) (texts : Bool) (es : List ValidationError) (c : Completion) → map (error_of texts) es ≡ (v.says c).errors → All (IsGiven v texts) es
 given_of v texts es c e = All-weaker (λ x. Contains (v.says c).errors (error_of texts x)) (IsGiven v texts) (λ x inside. (c, inside)) es
     (of_mapped (Contains (v.says c).errors) (error_of texts) es (subst (All (Contains (v.says c).errors)) (sym e) (All-contains_itself (v.says c).errors)))
@@ -176,7 +176,7 @@ module _ {K R : Type 0} (keywords : Keywords K R) (each : EachKeeps keywords) (m
   pub first_first : (texts : Bool) (o : Option ValidationError) (r : Remembered) → option_map (error_of texts) o ≡ first_error ((run_under []).outcome tt).errors → MeetsEach matcher (starting []) ((run_under []).met for_first) r → r.unassumed ≡ None → FirstAnswered v most texts o
   first_first texts o r says met none = first_whole texts o says (no_branch validate r met none)
 
-  -- ---- a matcher that finishes every match: no run meets one, so that a yes says that there is no error
+  -- ---- a matcher that finishes every match: no run meets an unfinished one, so "valid" means that there is no error
 
   module _ (finishes : Finishes matcher) where
     none_met : (call : Call) → branch_at v call [] ≡ None
@@ -231,7 +231,7 @@ module _ {K R : Type 0} (keywords : Keywords K R) (each : EachKeeps keywords) (m
     AreRuns texts = (s : S) (as' : Assumptions) (r : Remembered) (es : Vec ValidationError) (end : S) → Has s → Step s (starting as') r es end → Extends (completion_of as') as'
         → (map (error_of texts) es.items ≡ ((run_under as').outcome tt).errors) × MeetsEach matcher (starting as') ((run_under as').met for_all) r
 
-    -- what each step from such a state gives, each error of a run has
+    -- a fact about each step from such a state is one about each error of a run
     of_run : (call : Call) (P : ValidationError → Type 0) → ((s : S) (as' : Assumptions) (r : Remembered) (es : Vec ValidationError) (end : S) → Has s → Step s (starting as') r es end → Extends (completion_of as') as' → All P es.items)
         → (e : ValidationError) → OfRun v call Step start e → P e
     of_run call P h e o = All-contains P o.errors.items e (h o.before o.assumptions o.remembered o.errors o.after (reached_has keywords each matcher nodes instance root n Step start Has begins keeps o.before o.reaches) o.is_step (pairs_differ v call o.runs).1) o.gives
@@ -255,7 +255,7 @@ module _ {K R : Type 0} (keywords : Keywords K R) (each : EachKeeps keywords) (m
       each_given : AreRuns false → (e : ValidationError) → OfRun v call Step start e → IsGiven v false e
       each_given runs = of_run call (IsGiven v false) (λ s as' r es end has step once. given_of v false es.items (completion_of as') (told as' _ (runs s as' r es end has step once).0))
 
-      -- every error given borrows what stands at its place, if each run's errors do
+      -- every returned error borrows the value at its place, if each run's errors do
       pub borrowed : (texts : Bool) → AreRuns texts → ((s : S) (as' : Assumptions) (r : Remembered) (es : Vec ValidationError) (end : S) → Has s → Step s (starting as') r es end → All (BorrowsItsPlace instance) es.items)
           → (es : List ValidationError) → ((u : Sense) (call' : Call) → IsRunOf u call' Step first start none_in (λ m. is_nil (errors_of u m)) → GivesErrors u call' most Step start instance es) → All (BorrowsItsPlace instance) es
       borrowed texts runs borrows es gives = elim (gives v call (none_runs texts runs)).each [

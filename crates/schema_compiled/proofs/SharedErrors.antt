@@ -1,4 +1,4 @@
--- What a search over the nodes' errors gives, by the call whose first run began it.
+-- The result of a search over the nodes' errors, by the call whose first run began it.
 use Rattle.std.proofs.Common.{◌≡◌, ◌∙◌, ◌<◌, ◌≤◌, ℕ, Bool, List, true, false, suc, [], arith, length, subst}
 use Rattle.std.specs.Prelude.{All, is_some}
 use Rattle.std.specs.Global.{Vec}
@@ -38,7 +38,7 @@ use Rattle.schema_compiled.proofs.ErrorSearches.{AreRuns, borrowed, errors_searc
 pub both_on : {A B : Type 0} {x y p : A} {u v q : B} → x ≡ y → u ≡ v → (y ≡ p) × (v ≡ q) → (x ≡ p) × (u ≡ q)
 both_on h k has = (h ∙ has.0, k ∙ has.1)
 
--- what is told of a run of a program and an instance is told of what these are
+-- a fact about a run of a program and an instance is one about their values
 pub told_of : {C Run K M : Type 0} (keywords : KeywordMembers C Run K) (matchers : MatcherMembers M) (q p : Program C M) (v instance : Value) (as' : Assumptions) (r : Remembered) (es : List ValidationError)
     → RunListsErrors keywords matchers q (view v) as' es → RunMeets keywords matchers q (view v) for_all (starting as') r → All (BorrowsItsPlace (view v)) es → (q ≡ p) × (v ≡ instance)
     → RunListsErrors keywords matchers p (view instance) as' es × RunMeets keywords matchers p (view instance) for_all (starting as') r × All (BorrowsItsPlace (view instance)) es

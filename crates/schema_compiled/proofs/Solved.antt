@@ -37,7 +37,7 @@ solves_made {C = C} nodes followed p same is made follows =
     subst (λ (o : Option (List Bool)). (is_some o ≡ true) × IfSome o (IsFollowing p.nodes)) (sym is)
     (subst (λ (ns : List (NodeEntry C)). (is_some followed ≡ true) × IfSome followed (IsFollowing ns)) (sym same) (made, follows))
 
--- what is so anyway is so where there is an error
+-- what holds anyway holds if there is an error
 pub on_err : {T E P : Type 0} (r : Result T E) → P → OnErr r P
 on_err (Ok x) p = tt
 on_err (Err e) p = p
@@ -49,7 +49,7 @@ if_ok_some_both (Ok (Some x)) P Q R both p q = both x p q
 if_ok_some_both (Ok None) P Q R both p q = tt
 if_ok_some_both (Err e) P Q R both p q = tt
 
--- where so many pairs are enough, a solver that may begin so many is not stopped
+-- if a limit on pairs is enough, a solver with that limit is not stopped
 pub enough_decide : {C Run K M T E : Type 0} (keywords : KeywordMembers C Run K) (matchers : MatcherMembers M) (p : Program C M) (instance : Value) (limit : ℕ) (result : Result T E) (before after : Bool)
     → OnErr result (before ≡ false → after ≡ true → StopsLate keywords matchers p instance limit) → AreEnough keywords matchers p instance limit → OnErr result (before ≡ false → after ≡ false)
 enough_decide keywords matchers p instance limit (Ok x) before after late enough = tt
@@ -65,7 +65,7 @@ no_verdict : {X : Type 0} (found : Option X) → is_some found ≡ true → ¬ (
 no_verdict None some none = absurd (let f : ⊥ = cc in f)
 no_verdict (Some x) some none = none x refl
 
--- where the verdict is found within a limit, the solver is asked and does not give up: there is a verdict
+-- if the verdict is found within a limit, the solver is used and does not give up: there is a verdict
 pub gives_a_verdict : {C Run K M X : Type 0} (keywords : KeywordMembers C Run K) (matchers : MatcherMembers M) (p : Program C M) (instance : Value) (limit : ℕ) (finishes : Bool) (found : Option X)
     → finishes ≡ matchers.finishing p.matcher → (EachSays keywords.says_monotone (numbered keywords.shape p.nodes) (length p.nodes) → is_some found ≡ (is_some p.followed && finishes))
     → ((x : X) → ¬ (found ≡ Some x)) → ¬ IsDecidedWithin keywords matchers p instance limit
@@ -73,7 +73,7 @@ gives_a_verdict keywords matchers p instance limit finishes found says exactly n
     let asked : (is_some p.followed && finishes) ≡ true = rw (decided.enough.is_followed, says ∙ decided.finishing) refl in
     no_verdict found (exactly decided.monotone ∙ asked) none
 
--- where the verdict is found within its limit, a call is not stopped
+-- if the verdict is found within its limit, a call is not stopped
 pub not_stopped : {C Run K M : Type 0} (keywords : KeywordMembers C Run K) (matchers : MatcherMembers M) (p : Program C M) (instance : Value) (limit : ℕ) (before after : Budget)
     → before ≡ allowed (Some limit) → p.work ≡ Some limit → IfSome p.work (IsDecidedWithin keywords matchers p instance)
     → (IsDecidedWithin keywords matchers p instance before.left → before.stopped ≡ false → after.stopped ≡ false) → ¬ (after.stopped ≡ true)

@@ -67,7 +67,7 @@ module _ {C Run K M : Type 0} (keywords : KeywordMembers C Run K) (matchers : Ma
       let h = remembers_of (matchers.matching p.matcher) (guarded_sense (keywords.words texts) (matchers.matching p.matcher) (numbered keywords.shape p.nodes) (subject_in instance) n p.root) call [] r refl (met texts speaks nothing_twice n enough) in
       sym h.first ∙ ap (option_map (λ (f : Failure). f.met)) none)
 
-  -- nor where the matcher finishes every match
+  -- nor if the matcher finishes every match
   pub takes_finished : (old new : Budget) → 1 ≤ p.runs → Finishes (matchers.matching p.matcher) → Spends old new → TakesByRuns keywords matchers p instance call old new
   takes_finished old new some finishes = takes_one old new some (λ texts speaks n enough.
       ap (find (λ (m : Met). not (is_some (assumed [] m.pair)))) ((nodes_decide (keywords.words texts) (matchers.matching p.matcher) finishes (numbered keywords.shape p.nodes) (subject_in instance) n p.root).meets_none call []))

@@ -1,4 +1,4 @@
--- The verdict in a first error and in a list of errors: there is none exactly where the call says yes.
+-- The verdict in a first error and in a list of errors: there is none exactly if the call says "valid".
 use Rattle.std.proofs.Common.{false, refl, true, Bool, List, [], map, ℕ, ◌∷◌, ◌≡◌}
 use Rattle.std.specs.Prelude.{None, Option, Some, is_none, option_map}
 use Rattle.theory_definitions.specs.Cover.{Sense, iter_errors, validate}

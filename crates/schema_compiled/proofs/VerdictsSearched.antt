@@ -1,4 +1,4 @@
--- What a search over the nodes' verdicts gives and takes.
+-- The result and the steps of a search over the nodes' verdicts.
 use Rattle.std.proofs.Common.{◌≡◌, ◌<◌, ℕ, Bool, false, suc, [], arith, length}
 use Rattle.std.specs.Prelude.{Err, IfOk, Ok, Result}
 use Rattle.serde_json.specs.Data.{Data}

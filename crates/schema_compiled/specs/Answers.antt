@@ -1,4 +1,5 @@
--- What the run of the root's node answers: at every great enough depth, what its guarded meaning does, by the mode.
+-- The answer of a run of the root's node: at every great enough depth, the one of its guarded
+-- meaning, by the mode.
 use Rattle.std.specs.Prelude.{◌≡◌, ℕ, ◌<◌, [], Bool, List, length, map, option_map, Option, Some, None, Result, Ok, Err}
 use Rattle.serde_json.specs.Data.{Data}
 use Rattle.theory_definitions.specs.Matching.{Assumptions, Extends, Matcher, completion_of}
@@ -43,7 +44,7 @@ module _ {K S R M : Type 0} (shape : K → S) (words : Bool → Keywords S R) (i
   abbrev pub SaysUnit : Assumptions → EvaluationNode → Type 0
   SaysUnit as' u = OfRun as' (λ texts run. unit_of texts u ≡ run.units tt)
 
-  -- what it remembers after it, of what it met
+  -- what the run remembers of the matches that it met
   abbrev pub MeetsMatches : wanted.Mode → Remembered → Remembered → Type 0
   MeetsMatches mode old new = OfRun old.assumptions (λ texts run. MeetsEach (matching p.matcher) old (run.met mode) new)
 

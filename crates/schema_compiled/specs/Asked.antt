@@ -1,5 +1,6 @@
--- What the calls of a validator answer of an instance: the sentences that their clauses cite. They are those of `Answers`,
--- `Program` and `Spoken`, over the members of the keyword type's and the matcher type's traits.
+-- The answers of a validator's calls: the sentences that their clauses cite. They are those of
+-- `Answers`, `Program` and `Spoken`, over the members of the keyword type's and the matcher type's
+-- traits.
 use Rattle.std.specs.Prelude.{Bool, IfOk, List, Option, Result, true, ◌≡◌}
 use Rattle.serde_json.specs.Data.{Data}
 use Rattle.theory_definitions.specs.Cover.{is_valid}
@@ -18,7 +19,7 @@ use Rattle.schema_compiled.specs.Evaluated.{EvaluationAnswered, UnitsAnswered}
 use Rattle.schema_compiled.specs.Program.{FromSomeDepth, HasUnits, OfEveryEvaluation, OfEverySense, Program}
 use Rattle.schema_compiled.specs.Spoken.{EachIsGiven, ErrorsAnswered, FirstAnswered, FirstIsGiven}
 
--- this is so where the answer is a yes
+-- this holds if the answer is `true`
 abbrev pub IfYes : {E : Type 0} → Result Bool E → Type 0 → Type 0
 IfYes result Holds = IfOk result (λ b. b ≡ true → Holds)
 
@@ -26,7 +27,7 @@ IfYes result Holds = IfOk result (λ b. b ≡ true → Holds)
 module _ {C Run K M : Type 0} (keywords : KeywordMembers C Run K) (matchers : MatcherMembers M) (p : Program C M) (instance : Data) where
   -- ---- one run of the root's node, under what is assumed of unfinished matches
 
-  -- its reply is what the guarded meaning replies at every great enough depth, in the mode that is wanted
+  -- its reply is the one of the guarded meaning at every great enough depth, in the requested mode
   abbrev pub RunReplies : Mode → Assumptions → Reply → Type 0
   RunReplies = SaysReply keywords.shape keywords.words keywords.is_whole matchers.matching p instance
 
@@ -46,41 +47,44 @@ module _ {C Run K M : Type 0} (keywords : KeywordMembers C Run K) (matchers : Ma
   abbrev pub RunGivesUnit : Assumptions → EvaluationNode → Type 0
   RunGivesUnit = SaysUnit keywords.shape keywords.words keywords.is_whole matchers.matching p instance
 
-  -- what it remembers after it, of the unfinished matches that it met
+  -- what it remembers of the unfinished matches that it met
   abbrev pub RunMeets : wanted.Mode → Remembered → Remembered → Type 0
   RunMeets = MeetsMatches keywords.shape keywords.words keywords.is_whole matchers.matching p instance
 
-  -- ---- a call: what its answer is, by what the nodes say from some depth on, where chains of references return too
+  -- ---- a call: its answer by what the nodes say from some depth on, even if chains of references return
 
-  -- the verdict is that of all outcomes of the unfinished matches, and no past the validator's limit of runs
+  -- the verdict is that of all outcomes of the unfinished matches, and "invalid" past the
+  -- validator's limit on runs
   abbrev pub DecidesFromSomeDepth : Bool → Type 0
   DecidesFromSomeDepth valid = FromSomeDepth keywords.shape keywords.words keywords.is_whole matchers.matching p instance (λ texts v. VerdictSays v p.runs is_valid valid)
 
-  -- the error is the first that all outcomes share, or tells of such a match
+  -- the error is the first that all outcomes share, or reports such a match
   abbrev pub FirstFromSomeDepth : Option ValidationError → Type 0
   FirstFromSomeDepth o = FromSomeDepth keywords.shape keywords.words keywords.is_whole matchers.matching p instance (λ texts v. FirstAnswered v p.runs texts o)
 
-  -- the errors are those that all outcomes share, or one that tells of such a match
+  -- the errors are those that all outcomes share, or one that reports such a match
   abbrev pub ErrorsFromSomeDepth : List ValidationError → Type 0
   ErrorsFromSomeDepth es = FromSomeDepth keywords.shape keywords.words keywords.is_whole matchers.matching p instance (λ texts v. ErrorsAnswered v p.runs texts es)
 
-  -- the verdict is that of all outcomes, and no past the validator's limit of runs; where a match stays unfinished, the units are those of errors
+  -- the verdict is that of all outcomes, and "invalid" past the validator's limit on runs; if a
+  -- match stays unfinished, the units are those of errors
   abbrev pub EvaluatesFromSomeDepth : EvaluationNode → Type 0
   EvaluatesFromSomeDepth u = FromSomeDepth keywords.shape keywords.words keywords.is_whole matchers.matching p instance (λ texts v. EvaluationAnswered v p.runs texts u)
 
-  -- where no match stays unfinished, the units are those that the nodes have, under every outcome
+  -- if no match stays unfinished, the units are those that the nodes have, under every outcome
   abbrev pub UnitsFromSomeDepth : EvaluationNode → Type 0
   UnitsFromSomeDepth u = HasUnits keywords.shape keywords.words keywords.is_whole matchers.matching p instance u
 
-  -- each error is one that the nodes give under some outcome of the unfinished matches, so that it points where these point; or the call gives its one failure
+  -- each error is one that the nodes produce under some outcome of the unfinished matches, so that
+  -- it points where these point; or the call returns its one failure
   abbrev pub ErrorsPointAsNodes : List ValidationError → Type 0
   ErrorsPointAsNodes es = FromSomeDepth keywords.shape keywords.words keywords.is_whole matchers.matching p instance (λ texts v. EachIsGiven v p.runs texts es)
 
-  -- so is the first error, where there is one
+  -- so is the first error, if there is one
   abbrev pub FirstPointsAsNodes : Option ValidationError → Type 0
   FirstPointsAsNodes o = FromSomeDepth keywords.shape keywords.words keywords.is_whole matchers.matching p instance (λ texts v. FirstIsGiven v p.runs texts o)
 
-  -- ---- the same of every sense that the nodes mean, which there is where no chain of references returns
+  -- ---- the same of every sense that the nodes mean; there is one if no chain of references returns
 
   -- the verdict is the sense's
   abbrev pub DecidesInEverySense : Bool → Type 0
@@ -94,7 +98,7 @@ module _ {C Run K M : Type 0} (keywords : KeywordMembers C Run K) (matchers : Ma
   abbrev pub EvaluatesInEverySense : EvaluationNode → Type 0
   EvaluatesInEverySense u = OfEverySense keywords.shape keywords.words keywords.is_whole matchers.matching p instance (λ texts v. EvaluationAnswered v p.runs texts u)
 
-  -- where no match stays unfinished, the units are those that the nodes have beside the sense, under every outcome
+  -- if no match stays unfinished, the units are those that the nodes have beside the sense, under every outcome
   abbrev pub UnitsInEverySense : EvaluationNode → Type 0
   UnitsInEverySense u = OfEveryEvaluation keywords.shape keywords.words keywords.is_whole matchers.matching p instance (λ texts v units. UnitsAnswered v texts units u)
 

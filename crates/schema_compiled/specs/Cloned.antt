@@ -1,5 +1,6 @@
--- What a clone of a validator answers: at each depth its nodes say of an instance what the source's say. So whatever may be answered of
--- the source may be answered of the clone, and nothing else: both answer equally.
+-- The answers of a validator's clone: at each depth its nodes say of an instance what the
+-- original's say. So an answer is possible for the clone exactly if it is possible for the
+-- original.
 use Rattle.std.specs.Prelude.{Bool, List, Option, [], ℕ, ◌≡◌, ◌↔◌}
 use Rattle.serde_json.specs.Data.{Data}
 use Rattle.theory_definitions.specs.Cover.{Sense}
@@ -17,7 +18,7 @@ use Rattle.schema_compiled.specs.Program.{Program, Speaks}
 
 -- C is a keyword of the code, K what is known of it, M a matcher of the code
 module _ {C Run K M : Type 0} (keywords : KeywordMembers C Run K) (matchers : MatcherMembers M) where
-  -- whether texts of errors are spoken of, in what a validator says of an instance
+  -- whether texts of errors are covered, in what a validator says of an instance
   abbrev SpeaksOf : Program C M → Data → Bool → Type 0
   SpeaksOf p instance texts = Speaks keywords.shape keywords.words keywords.is_whole matchers.matching p instance texts
 
@@ -29,8 +30,9 @@ module _ {C Run K M : Type 0} (keywords : KeywordMembers C Run K) (matchers : Ma
   abbrev unit_at : Program C M → Data → Bool → ℕ → Completion → Unit_
   unit_at p instance texts n c = guarded_within (yes_unit (numbered keywords.shape p.nodes)) (node_unit (keywords.words texts) (matchers.matching p.matcher) (numbered keywords.shape p.nodes) (subject_in instance) c) n p.root [] [] []
 
-  -- two validators say the same of every instance, and their calls make equally many runs and take equally many steps at most: texts are spoken of for both or for neither, and at each depth their roots' nodes
-  -- have one sense, and one unit under each outcome of the unfinished matches
+  -- two validators say the same of every instance, and their calls have the same limits on runs and
+  -- on steps: texts are covered for both or for neither, and at each depth their roots' nodes have
+  -- one sense, and one unit under each outcome of the unfinished matches
   pub record SaySame (p p' : Program C M) : Type 0 where
     pub runs : p.runs ≡ p'.runs
     pub work : p.work ≡ p'.work

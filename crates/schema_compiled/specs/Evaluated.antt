@@ -1,5 +1,6 @@
--- What `evaluate` is said to answer: the verdict of its outermost unit; its units, where the first run meets no unfinished match; and
--- the errors that its units are made of, where it meets one. (Core 2020-12, 12.4)
+-- The answer of `evaluate`: the verdict of its outermost unit; its units, if the first run meets no
+-- unfinished match; and the errors that its units are made of, if the first run meets one. (Core
+-- 2020-12, 12.4)
 use Rattle.std.specs.Prelude.{All, Bool, List, None, [], map, true, ℕ, ◌≡◌, ◌≤◌, ◌⊎◌}
 use Rattle.theory_definitions.specs.Cover.{Decides, Sense, branch_at, evaluate}
 use Rattle.theory_meaning.specs.Headline.{ErrorsOf, OneFailure, VerdictSays}
@@ -12,13 +13,16 @@ use Rattle.schema_reports.specs.declared.reports.ValidationError.{ValidationErro
 use Rattle.schema_output.specs.ErrorUnits.{errors_unit}
 use Rattle.schema_compiled.specs.Spoken.{IsGiven}
 
--- the verdict of an evaluation, which is its outermost unit's
+-- the verdict of an evaluation, the one of its outermost unit
 abbrev pub verdict_in : Bool → EvaluationNode → Bool
 verdict_in texts u = (report_of (unit_of texts u)).valid
 
--- of a call that makes so many runs at most
+-- of a call with this limit on runs
 module _ (v : Sense) (most : ℕ) (texts : Bool) where
-  -- one unit for each of these errors, inside one at empty locations; each error is one that some completion gives, or the call gives its one failure, as it does where it doesn't decide; where texts are spoken of, they are those that all completions share, or the failure where there is none and some completion refuses
+  -- one unit for each of these errors, inside one at empty locations. Each error is one that some
+  -- outcome produces, or the call returns its one failure, as it does if it does not decide. If
+  -- texts are covered, the errors are those that all outcomes share, or the failure if there is
+  -- none and some outcome refuses
   pub record IsOfErrors (u : Unit_) : Type 0 where
     pub errors : List ValidationError
     pub made : u ≡ errors_unit (map (error_of texts) errors)
@@ -26,13 +30,15 @@ module _ (v : Sense) (most : ℕ) (texts : Bool) where
     pub undecided : ¬ (Decides v most evaluate) → OneFailure v most evaluate (map (error_of true) errors)
     pub shared : texts ≡ true → ErrorsOf v most evaluate (map (error_of true) errors)
 
-  -- the call makes its first run; the verdict is yes exactly if every completion accepts, and no where the call doesn't decide; where the first run meets an unfinished match, the units are those of errors
+  -- the call makes its first run; the verdict is "valid" exactly if every outcome accepts, and
+  -- "invalid" if the call does not decide; if the first run meets an unfinished match, the units
+  -- are those of errors
   pub record EvaluationAnswered (u : EvaluationNode) : Type 0 where
     pub makes_one : 1 ≤ most
     pub verdict : VerdictSays v most evaluate (report_of (unit_of texts u)).valid
     pub apart : ¬ (branch_at v evaluate [] ≡ None) → IsOfErrors (unit_of texts u)
 
--- where the first run meets no unfinished match, the units are these, under every completion
+-- if the first run meets no unfinished match, the units are these, under every outcome of the matches
 module _ (v : Sense) (texts : Bool) where
   abbrev pub UnitsAnswered : (Completion → Unit_) → EvaluationNode → Type 0
   UnitsAnswered units u = branch_at v evaluate [] ≡ None → (c : Completion) → unit_of texts u ≡ units c

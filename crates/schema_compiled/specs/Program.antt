@@ -15,8 +15,9 @@ use Rattle.theory_meaning.specs.Means as means
 use Rattle.theory_meaning.specs.Fractions.{AreWhole}
 use Rattle.schema_node_table.specs.NodeTable.{NodeEntry, numbered}
 
--- the nodes, the number of the root's, the root's draft, the matcher, how many runs a call makes at most, how many steps it takes at most,
--- where there is a limit, and whether each number of the nodes is one that its solver follows, where it has a solver
+-- the nodes, the number of the root's node, the root's draft, the matcher, how many runs a call
+-- makes at most, how many steps it takes at most, if there is a limit, and for each number of the
+-- nodes whether the solver inlines it, if there is a solver
 pub record Program (K M : Type 0) : Type 0 where
   pub nodes : List (NodeEntry K)
   pub root : ℕ
@@ -26,7 +27,8 @@ pub record Program (K M : Type 0) : Type 0 where
   pub work : Option ℕ
   pub followed : Option (List Bool)
 
--- a program of these: the nodes, the root's number and draft, the matcher, the limits on runs and steps, and the numbers that a solver follows
+-- a program of these: the nodes, the root's number and draft, the matcher, the limits on runs and
+-- steps, and the numbers that a solver inlines
 abbrev pub program_with : {C M : Type 0} → List (NodeEntry C) → ℕ → Draft → M → ℕ → Option ℕ → Option (List Bool) → Program C M
 program_with nodes root draft matcher runs work followed = record {
   nodes = nodes;
@@ -40,7 +42,7 @@ program_with nodes root draft matcher runs work followed = record {
 
 -- S is what is known of a keyword, R a run with its answer so far
 module _ {K S R M : Type 0} (shape : K → S) (words : Bool → Keywords S R) (is_whole : S → Bool) (matching : M → Matcher) (p : Program K M) (instance : Data) where
-  -- texts of errors are spoken of only where the instance holds no fraction and every keyword is whole
+  -- texts of errors are covered only if the instance holds no fraction and every keyword is whole
   abbrev pub Speaks : Bool → Type 0
   Speaks texts = texts ≡ true → (has_float instance ≡ false) × AreWhole is_whole (numbered shape p.nodes) (length p.nodes)
 
@@ -48,23 +50,23 @@ module _ {K S R M : Type 0} (shape : K → S) (words : Bool → Keywords S R) (i
   abbrev pub Means : Bool → Sense → Type 0
   Means texts v = means.Means (words texts) (matching p.matcher) (numbered shape p.nodes) p.root instance v
 
-  -- what is said of every sense that the nodes mean
+  -- a fact about every sense that the nodes mean
   abbrev pub OfEverySense : (Bool → Sense → Type 0) → Type 0
   OfEverySense fact = (texts : Bool) → Speaks texts → means.OfEverySense (words texts) (matching p.matcher) (numbered shape p.nodes) p.root instance (fact texts)
 
-  -- what is said of the nodes from some depth on, where chains of questions return too
+  -- a fact about what the nodes say from some depth on, even if chains of questions return
   abbrev pub FromSomeDepth : (Bool → Sense → Type 0) → Type 0
   FromSomeDepth fact = (texts : Bool) → Speaks texts → means.FromSomeDepth (words texts) (matching p.matcher) (numbered shape p.nodes) p.root instance (fact texts)
 
-  -- the nodes have these units under each completion
+  -- the nodes have these units under each outcome of the matches
   abbrev pub HaveUnits : Bool → (Completion → Unit_) → Type 0
   HaveUnits texts units = means.HaveUnits (words texts) (matching p.matcher) (numbered shape p.nodes) p.root instance units
 
-  -- what is said of every sense that the nodes mean, with all units that they have
+  -- a fact about every sense that the nodes mean, with all units that they have
   abbrev pub OfEveryEvaluation : (Bool → Sense → (Completion → Unit_) → Type 0) → Type 0
   OfEveryEvaluation fact = (texts : Bool) → Speaks texts → (v : Sense) → Means texts v → (units : Completion → Unit_) → HaveUnits texts units → fact texts v units
 
-  -- at every great enough depth, where the first run of an evaluation meets no unfinished match, the units are those that the nodes have under every completion
+  -- at every great enough depth, if the first run of an evaluation meets no unfinished match, the units are those that the nodes have under every outcome of the matches
   abbrev pub HasUnits : EvaluationNode → Type 0
   HasUnits u = (texts : Bool) → Speaks texts → (deep : ℕ) × ((n : ℕ) → deep ≤ n
       → branch_at (guarded_sense (words texts) (matching p.matcher) (numbered shape p.nodes) (subject_in instance) n p.root) evaluate [] ≡ None

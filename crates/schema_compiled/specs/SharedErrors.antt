@@ -1,5 +1,5 @@
--- The errors that all outcomes of the unfinished matches share, or the one that stands in their place: what is known of them, by
--- the call whose first run met such a match.
+-- The errors that all outcomes of the unfinished matches share, or the one in place of them: what
+-- is known of them, by the call whose first run met such a match.
 use Rattle.std.specs.Prelude.{All, Bool, List, [], map, slice_get, ◌≡◌}
 use Rattle.serde_json.specs.Data.{Data}
 use Rattle.theory_definitions.specs.Cover.{Call, evaluate, iter_errors, mode_of, validate}
@@ -23,16 +23,17 @@ module _ {C Run K M : Type 0} (keywords : KeywordMembers C Run K) (matchers : Ma
   abbrev pub Begins : Call → Type 0
   Begins call = RunMeets keywords matchers p instance (mode_of call []) (starting []) first
 
-  -- so much is taken by the runs of each call for which it was made, where the further runs want all errors
+  -- how much the runs of each call take for which the first run was made, if the further runs
+  -- produce all errors
   abbrev pub TakesAsBegun : Budget → Budget → Type 0
   TakesAsBegun old new = (call : Call) → WantsAllLater call → Begins call → TakesByRuns keywords matchers p instance call old new
 
   pub record AreShared (es : List ValidationError) : Type 0 where
-    -- they are what `iter_errors` answers
+    -- they are the answer of `iter_errors`
     pub errors : Begins iter_errors → ErrorsFromSomeDepth keywords matchers p instance es
-    -- the first of them is what `validate` answers
+    -- the first of them is the answer of `validate`
     pub first_error : Begins validate → FirstFromSomeDepth keywords matchers p instance (slice_get es 0)
-    -- units that are made of them are what `evaluate` answers
+    -- units that are made of them are the answer of `evaluate`
     pub units : Begins evaluate → (u : EvaluationNode) → ((texts : Bool) → unit_of texts u ≡ errors_unit (map (error_of texts) es)) → EvaluatesFromSomeDepth keywords matchers p instance u
     -- each borrows the value at its place
     pub borrows : (call : Call) → WantsAllLater call → Begins call → All (BorrowsItsPlace instance) es

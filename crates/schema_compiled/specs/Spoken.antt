@@ -1,7 +1,8 @@
--- What `validate` and `iter_errors` are said to answer. Where texts of errors are spoken of, their sentences are said. Where
--- the instance or a keyword holds a fraction, texts are not spoken of, and so it is not known which errors all completions
--- share: then the verdict is said, where each error comes from, and the sentences where the first run meets no unfinished match.
--- Where errors come from is said by itself too: what is known of all errors of a sense is then known of those that are given.
+-- The answers of `validate` and `iter_errors`. If texts of errors are covered, the answers are said
+-- in full. If the instance or a keyword holds a fraction, texts are not covered, so it is not known
+-- which errors all outcomes share. Then these words say the verdict, where each error comes from,
+-- and, if the first run meets no unfinished match, the answers. Where errors come from is said
+-- separately too, so that a fact about all errors of a sense is one about the returned errors.
 use Rattle.std.specs.Prelude.{All, Bool, Contains, IfSome, List, None, Option, Some, [], false, is_none, map, option_map, true, ℕ, ◌≡◌, ◌⊎◌}
 use Rattle.theory_definitions.specs.Reports.{Error}
 use Rattle.theory_definitions.specs.Matching.{Completion}
@@ -12,13 +13,14 @@ use Rattle.unfinished_search.specs.SharedResults.{is_empty}
 use Rattle.schema_reports.specs.declared.reports.ValidationError.{ValidationError}
 
 module _ (v : Sense) where
-  -- some completion gives the error
+  -- some outcome produces the error
   abbrev pub IsGiven : Bool → ValidationError → Type 0
   IsGiven texts e = (c : Completion) × Contains (v.says c).errors (error_of texts e)
 
--- of a call that makes so many runs at most
+-- of a call with this limit on runs
 module _ (v : Sense) (most : ℕ) where
-  -- errors where texts are not spoken of: each is one of some completion's, or the failure stands alone; the latter where the call doesn't decide
+  -- errors if texts are not covered: each is one of some outcome, or the failure is alone; the
+  -- latter if the call does not decide
   pub record ErrorsUnspoken (es : List ValidationError) : Type 0 where
     pub verdict : VerdictSays v most iter_errors (is_empty es)
     pub given : All (IsGiven v false) es ⊎ OneFailure v most iter_errors (map (error_of true) es)
@@ -32,7 +34,8 @@ module _ (v : Sense) (most : ℕ) where
     pub undecided : ¬ (Decides v most validate) → (e : Error) × IsFailure v most validate e × (option_map (error_of true) o ≡ Some e)
     pub alone : branch_at v validate [] ≡ None → FirstSays v most (option_map (error_of false) o)
 
-  -- where errors come from, whatever they point at: each is one that some completion gives, or the call gives its one failure; the latter where it doesn't decide
+  -- where errors come from, whatever they point at: each is one that some outcome produces, or the
+  -- call returns its one failure; the latter if it does not decide
   abbrev pub EachIsGiven : Bool → List ValidationError → Type 0
   EachIsGiven texts es = Either (Decides v most iter_errors) (All (IsGiven v texts) es ⊎ OneFailure v most iter_errors (map (error_of true) es)) (OneFailure v most iter_errors (map (error_of true) es))
 
@@ -41,7 +44,7 @@ module _ (v : Sense) (most : ℕ) where
   FirstIsGiven texts None = Unit {0}
   FirstIsGiven texts (Some e) = Either (Decides v most validate) (IsGiven v texts e ⊎ IsFailure v most validate (error_of true e)) (IsFailure v most validate (error_of true e))
 
-  -- what the contracts of the two calls cite, texts being spoken of or not
+  -- the statements that the contracts of the two calls cite, whether texts are covered or not
   abbrev pub ErrorsAnswered : Bool → List ValidationError → Type 0
   ErrorsAnswered true es = ErrorsSay v most (map (error_of true) es)
   ErrorsAnswered false es = ErrorsUnspoken es

@@ -1,4 +1,4 @@
--- What the runs of a call take of its budget.
+-- How much of its budget a call takes for its runs.
 use Rattle.std.specs.Prelude.{ℕ, suc, true, ◌+◌, ◌≡◌, ◌≤◌}
 use Rattle.serde_json.specs.Data.{Data}
 use Rattle.theory_definitions.specs.Cover.{Call}
@@ -10,8 +10,8 @@ use Rattle.schema_compiled.specs.Program.{FromSomeDepth, Program}
 
 -- C is a keyword of the code, K what is known of it, M a matcher of the code
 module _ {C Run K M : Type 0} (keywords : KeywordMembers C Run K) (matchers : MatcherMembers M) (p : Program C M) (instance : Data) (call : Call) (old new : Budget) where
-  -- no more is left than before; and where there is a limit, as many fewer at least as the call makes runs after its first one: by what the
-  -- nodes say from some depth on, which settles how many these are
+  -- no more is left than before. If there is a limit, what is left is less by at least one for each
+  -- run after the first; what the nodes say from some depth on determines how many runs these are
   pub record TakesByRuns : Type 0 where
     pub spends : Spends old new
     pub runs : old.limited ≡ true → FromSomeDepth keywords.shape keywords.words keywords.is_whole matchers.matching p instance (λ texts v. (n : ℕ) × MakesRuns v p.runs call (suc n) × (new.left + n ≤ old.left))

@@ -1,4 +1,4 @@
-//! Compiled nodes with all that a call of them needs, and what their runs and their solver answer of an instance.
+//! Compiled schemas, and the answers of their runs and of their solver.
 ghost use Rattle.std.specs.Prelude.{◌≡◌, ◌&&◌, ◌<◌, ◌≤◌, [], false, true, None, Option, IfOk, All, IfSome, IsSome, OnErr, OnOk};
 ghost use Rattle.std.specs.Prelude.{is_some, length, slice_get};
 ghost use Rattle.schema_traits.specs.Showing.{Shows};
@@ -50,16 +50,20 @@ use std::marker::Model;
 use unfinished_matches::assumptions::MatchAssumptions;
 use unfinished_search::{errors_under_each, validity_under_each};
 
-/// How much a call may do: how many runs it makes at most for unfinished matches, and how many steps it takes at most, where there is a
-/// limit (`with_work_limit`).
+/// The limits of a call: on runs, and on steps if there is such a limit.
+///
+/// `with_work_limit` of the options says what a step is.
 #[derive(Clone, Copy)]
 pub struct CallLimits {
     pub runs: u32,
     pub work: Option<u64>,
 }
 
-/// A compiled schema: its nodes, with the number of the root's among them, the root's draft, the matcher, the limits of a call, and a
-/// solver, where it has one. It is asked of any number of instances, and no call changes it.
+/// A compiled schema.
+///
+/// It has the nodes, the number of the root's node, the root's draft, the matcher, the limits of a
+/// call, and a solver, if there is one. It validates any number of instances, and no call changes
+/// it.
 #[derive(Drop)]
 pub struct CompiledSchema<K: Validate, M> {
     nodes: Nodes<K>,
@@ -68,7 +72,7 @@ pub struct CompiledSchema<K: Validate, M> {
     matcher: M,
     run_limit: u32,
     work_limit: Option<u64>,
-    // where a solver finds verdicts
+    // finds verdicts without a run
     finder: Solver,
 }
 
@@ -96,7 +100,6 @@ impl<K: Validate, M> Model for CompiledSchema<K, M> {
     ghost invariant = { λ v. (v.root.0 < length v.nodes) × (1 ≤ v.run_limit) };
 }
 
-// The first of these errors.
 fn first_of<'i>(errors: Vec<ValidationError<'i>>) -> Option<ValidationError<'i>>
     ensures first { result ≡ slice_get errors.entry.items 0 }
 {
@@ -109,8 +112,7 @@ fn first_of<'i>(errors: Vec<ValidationError<'i>>) -> Option<ValidationError<'i>>
 }
 
 impl<K: Validate, M: Matcher> CompiledSchema<K, M> {
-    /// Makes one of compiled nodes, the number of the root's node, the root's draft, the matcher, the limits of a call and the solver.
-    /// Allocates nothing.
+    /// Returns a compiled schema of these parts.
     pub fn of_nodes(
         nodes: Nodes<K>,
         root: SchemaNode,
@@ -134,14 +136,16 @@ impl<K: Validate, M: Matcher> CompiledSchema<K, M> {
         }
     }
 
-    /// Returns how many runs a call makes at most for unfinished matches, the first one among them.
+    /// Returns how many runs a call makes at most for unfinished matches.
+    ///
+    /// The first run counts as one.
     pub fn run_limit(&self) -> u32
         ensures runs { result ≡ self.now.runs }
     {
         self.run_limit
     }
 
-    /// Returns how many steps a call takes at most, where there is a limit.
+    /// Returns how many steps a call takes at most, if there is a limit.
     pub fn work_limit(&self) -> Option<u64>
         ensures work { result ≡ self.now.work }
     {
@@ -178,7 +182,7 @@ impl<K: Validate, M: Matcher> CompiledSchema<K, M> {
         self.nodes.len()
     }
 
-    // What the root's node says of an instance, under what is assumed of unfinished matches.
+    // Returns the reply of the root's node, under these assumptions about unfinished matches.
     fn asked<'i>(
         &self,
         alloc: Global,
@@ -222,7 +226,7 @@ impl<K: Validate, M: Matcher> CompiledSchema<K, M> {
         }
     }
 
-    // The verdict of the root's node, under what is assumed of unfinished matches.
+    // Returns the verdict of the root's node, under these assumptions about unfinished matches.
     fn verdict<'i>(
         &self,
         alloc: Global,
@@ -243,12 +247,15 @@ impl<K: Validate, M: Matcher> CompiledSchema<K, M> {
         }
     }
 
-    /// Returns the verdict of the root's node as a solver finds it, where nothing is assumed, with the context in which it found that;
-    /// `None` where there is no solver, where the matcher may leave a match unfinished, and where the solver gave up.
+    /// Returns the verdict of the root's node as the solver finds it, with its context.
+    ///
+    /// Nothing is assumed of unfinished matches. It returns `None` if there is no solver, if the
+    /// matcher may leave a match unfinished, or if the solver gives up.
     ///
     /// # Errors
     ///
-    /// Fails out of memory, and where one more step is to be taken: then `work` says that it is stopped.
+    /// Out of memory; or one more step is needed. In the second case `work` says that it is
+    /// stopped.
     pub fn solved<'i>(
         &self,
         alloc: Global,
@@ -279,11 +286,14 @@ impl<K: Validate, M: Matcher> CompiledSchema<K, M> {
         )
     }
 
-    /// Returns whether every outcome of the unfinished matches accepts. Where a solver may find the verdict, it does.
+    /// Returns whether every outcome of the unfinished matches accepts.
+    ///
+    /// The verdict is the solver's, if it finds one.
     ///
     /// # Errors
     ///
-    /// Fails out of memory, and where one more step is to be taken: then `work` says that it is stopped.
+    /// Out of memory; or one more step is needed. In the second case `work` says that it is
+    /// stopped.
     pub fn valid_under_each(
         &self,
         alloc: Global,
@@ -311,7 +321,8 @@ impl<K: Validate, M: Matcher> CompiledSchema<K, M> {
         )
     }
 
-    // Whether the matcher finishes every match, and the root's node accepts the instance: then it has no error. `false` says nothing.
+    // Returns whether the matcher finishes every match and the root's node accepts the instance. If
+    // so, there is no error. A `false` says nothing.
     fn accepts_at_once(
         &self,
         alloc: Global,
@@ -334,7 +345,7 @@ impl<K: Validate, M: Matcher> CompiledSchema<K, M> {
         Ok(false)
     }
 
-    // The first error of the root's node, where nothing is assumed.
+    // Returns the first error of the root's node. Nothing is assumed.
     fn first<'i>(
         &self,
         alloc: Global,
@@ -357,7 +368,7 @@ impl<K: Validate, M: Matcher> CompiledSchema<K, M> {
         }
     }
 
-    // All errors of the root's node, under what is assumed of unfinished matches.
+    // Returns all errors of the root's node, under these assumptions about unfinished matches.
     fn errors<'i>(
         &self,
         alloc: Global,
@@ -380,8 +391,8 @@ impl<K: Validate, M: Matcher> CompiledSchema<K, M> {
         }
     }
 
-    // The errors that every outcome of the unfinished matches gives, after a first run that met such a match. The further runs
-    // want all errors, whatever the first one wanted.
+    // Returns the errors that all outcomes share, after a first run that met an unfinished match.
+    // The further runs produce all errors, whatever the first run produced.
     fn shared_errors<'i>(
         &self,
         alloc: Global,
@@ -404,12 +415,15 @@ impl<K: Validate, M: Matcher> CompiledSchema<K, M> {
         Ok(shared)
     }
 
-    /// Returns the first of the errors that every outcome of the unfinished matches gives, if there is one. Where the matcher finishes
-    /// every match, the verdict is asked first. Where the first run meets an unfinished one, the further runs want all errors.
+    /// Returns the first error that all outcomes of the unfinished matches share, if there is one.
+    ///
+    /// If the matcher finishes every match, the call looks for the verdict first. If the first run
+    /// meets an unfinished match, the further runs produce all errors.
     ///
     /// # Errors
     ///
-    /// Fails out of memory, and where one more step is to be taken: then `work` says that it is stopped.
+    /// Out of memory; or one more step is needed. In the second case `work` says that it is
+    /// stopped.
     pub fn first_under_each<'i>(
         &self,
         alloc: Global,
@@ -434,12 +448,14 @@ impl<K: Validate, M: Matcher> CompiledSchema<K, M> {
         Ok(first_of(shared))
     }
 
-    /// Returns the errors that every outcome of the unfinished matches gives, in order. Where the matcher finishes every match, the verdict
-    /// is asked first.
+    /// Returns the errors that all outcomes of the unfinished matches share, in order.
+    ///
+    /// If the matcher finishes every match, the call looks for the verdict first.
     ///
     /// # Errors
     ///
-    /// Fails out of memory, and where one more step is to be taken: then `work` says that it is stopped.
+    /// Out of memory; or one more step is needed. In the second case `work` says that it is
+    /// stopped.
     pub fn all_under_each<'i>(
         &self,
         alloc: Global,
@@ -462,7 +478,7 @@ impl<K: Validate, M: Matcher> CompiledSchema<K, M> {
         self.shared_errors(alloc, instance, (met, errors), work)
     }
 
-    // The unit of the root's node, where nothing is assumed.
+    // Returns the unit of the root's node. Nothing is assumed.
     fn unit<'i>(
         &self,
         alloc: Global,
@@ -499,12 +515,15 @@ impl<K: Validate, M: Matcher> CompiledSchema<K, M> {
         }
     }
 
-    /// Returns the units of the root's node; where its run meets an unfinished match, those of the errors that every outcome of the
-    /// unfinished matches gives.
+    /// Returns the unit of the root's node.
+    ///
+    /// If its run meets an unfinished match, the unit is made of the errors that all outcomes
+    /// share.
     ///
     /// # Errors
     ///
-    /// Fails out of memory, and where one more step is to be taken: then `work` says that it is stopped.
+    /// Out of memory; or one more step is needed. In the second case `work` says that it is
+    /// stopped.
     pub fn evaluated_under_each(
         &self,
         alloc: Global,

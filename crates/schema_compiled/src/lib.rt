@@ -1,4 +1,4 @@
-//! Compiled nodes with all that a call needs, what their runs and their solver answer of instances, and what is said of the answers.
+//! Compiled schemas, the answers of their runs and of their solver, and definitions about them.
 #![tactic(auto)]
 
 pub mod compiled_schema;

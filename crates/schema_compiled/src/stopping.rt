@@ -1,4 +1,4 @@
-//! The failure of a call that stops, since it would take more steps than its validator allows.
+//! The failure of a call that reaches its validator's limit on steps.
 ghost use Rattle.std.specs.Prelude.{IfOk};
 ghost use Rattle.serde_json.specs.View.{view};
 ghost use Rattle.schema_compiled.specs.Stopped.{OnlyTellsLimit, TellsLimit};
@@ -31,7 +31,7 @@ pub fn limit_failure<'i>(
     })
 }
 
-/// Returns it as the only error.
+/// Returns the failure of a call that stopped at this limit, as the only error.
 pub fn limit_failure_alone<'i>(
     alloc: Global,
     limit: u64,
