@@ -1,4 +1,4 @@
--- What the compiler gives, as the nodes that are compiled from its root, whatever matcher and words go with the parts.
+-- The result of the compiler, as the nodes that are compiled from its root, whatever matcher and words go with the parts.
 use Rattle.std.proofs.Common.{◌≡◌, ℕ, zero, suc, Bool, List, [], ◌∷◌, map, refl, sym, subst}
 use Rattle.std.specs.Prelude.{Decides, Option, Some, All, slice_get, slice_index_or}
 use Rattle.std.proofs.lemmas.Option.{slice_get_within}

@@ -1,4 +1,4 @@
--- What the compiler gives for a subschema by itself, as what is said over the standard's table.
+-- The result of the compiler for a subschema by itself, in terms of the standard's table.
 use Rattle.std.proofs.Common.{◌≡◌, ◌≤◌, ◌∙◌, ℕ, Bool, List, ap, arith, length, refl, subst, sym}
 use Rattle.std.specs.Prelude.{Ok, Option}
 use Rattle.serde_json.specs.Data.{Data, Members}

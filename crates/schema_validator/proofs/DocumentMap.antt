@@ -27,7 +27,7 @@ use Rattle.schema_keys.proofs.PlaceNames.{one_place}
 use Rattle.schema_validator.proofs.RootKeys.{one_root_key, some_is}
 
 module _ {S K R : Type 0} (w : Parts S K R) where
-  -- where no cause stands for a key, its value is an object or a boolean
+  -- if there is no cause to refuse a key, its value is an object or a boolean
   is_schema_there : (key : Key S) → ((cause : Cause) → ¬ (StandsBelow w key cause)) → is_schema w (schema_of w key) ≡ true
   is_schema_there key none = go (schema_of w key) refl
     where
@@ -44,7 +44,7 @@ module _ {S K R : Type 0} (w : Parts S K R) where
       go (object ms) e = refl
 
   module _ (root : Key S) where
-    -- an entry stands at its path below the root
+    -- an entry is at its path below the root
     entry_place : (path : Place) (key : Key S) → entry_key w root path ≡ Some key → key.target.place ≡ at_path root.target.place path
     entry_place [] key e = ap (λ (k : Key S). k.target.place) (sym (some_is (Some root) root key refl e)) ∙ ap (λ (q : Place). let p : SchemaPlace = record { document = root.target.place.document; path = q } in p) (sym (append-nil root.target.place.path))
     entry_place (s ∷ path) key e =
@@ -58,12 +58,12 @@ module _ {S K R : Type 0} (w : Parts S K R) where
         go None q = absurd (let no : ⊥ = cc in no)
         go (Some state) q = ap (λ (k : Key S). k.target.place) (sym (some_is _ _ key refl q))
 
-    -- where the root's own vocabularies are declared, the root compiles as a subschema does
+    -- if the root's own vocabularies are declared, the root compiles as a subschema does
     entry_compiles : flat_map (undeclared w) root.target.vocabularies ≡ [] → (path : Place) (key : Key S) → entry_key w root path ≡ Some key → ((cause : Cause) → ¬ (StandsBelow w key cause)) → EntryCompiles w path key
     entry_compiles declared [] key e none = λ cause stands. none cause (stands_but w (subst (λ (k : Key S). flat_map (undeclared w) k.target.vocabularies ≡ []) (some_is (Some root) root key refl e) declared) stands)
     entry_compiles declared (s ∷ path) key e none = none
 
-    -- what compiles stands in the document
+    -- what compiles is in the document
     record StandsIn (path : Place) : Type 0 where
       document : Data
       value : Data
@@ -84,7 +84,7 @@ module _ {S K R : Type 0} (w : Parts S K R) where
         let there = stands_in_document law path c in
         subst (λ (d : Option Data). In (schemas_of d) path) (sym there.is_document ∙ document) (document_schema w there.document there.value [] path there.stands there.is_schema_there)
 
-    -- two that compile are one where they have one pointer
+    -- two that compile are the same if they have the same pointer
     one_compiled : IsInside w.resolver → (p q : Place) → IsCompiled w root p → IsCompiled w root q → IndicesFit p → IndicesFit q → pointer_to p ≡ pointer_to q → p ≡ q
     one_compiled law p q c d fit fit' e =
         let there = stands_in_document law p c in

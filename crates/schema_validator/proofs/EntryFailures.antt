@@ -1,4 +1,4 @@
--- What a failure at a place of the map says of what stands there.
+-- What a failure at a place of the map says of the schema there.
 use Rattle.std.proofs.Common.{◌≡◌, ℕ, subst, [], ◌∷◌, refl, inl, inr}
 use Rattle.std.specs.Prelude.{None, Option, Some, ◌⊎◌}
 use Rattle.theory_definitions.specs.Instance.{Place}
@@ -14,7 +14,7 @@ use Rattle.schema_compiler.proofs.Compiled.{stands_too}
 use Rattle.schema_validator.specs.Handed.{Options}
 use Rattle.schema_validator.specs.Mapped.{RefusesLimit}
 
--- neither want of memory nor the limit
+-- neither lack of memory nor the limit
 abbrev pub IsOfSchema : BuildError → Type 0
 IsOfSchema (NodeLimit n) = ⊥
 IsOfSchema OutOfMemory = ⊥
@@ -38,7 +38,7 @@ no_key : {A : Type 0} (o : Option A) (a : A) → o ≡ None → o ≡ Some a →
 no_key o a p q = let f : ⊥ = cc in f
 
 module _ {S K R : Type 0} (w : Parts S K R) (root : Key S) where
-  -- no cause stands below an entry that compiles
+  -- there is no cause of refusal below an entry that compiles
   no_cause : (path : Place) (key : Key S) (cause : Cause) → EntryCompiles w path key → ¬ (StandsBelow w key cause)
   no_cause [] key cause compiles stands = compiles cause (stands_too w stands)
   no_cause (s ∷ p) key cause compiles stands = compiles cause stands

@@ -1,4 +1,4 @@
--- Which cause comes first, from what is known where a build or a map of a root's key is refused.
+-- Which cause comes first, from what is known if a build or a map of a root's key is refused.
 use Rattle.std.proofs.Common.{◌≡◌, [], Bool, inl, inr, refl, subst, sym, true}
 use Rattle.std.specs.Prelude.{None, Option, Some, flat_map}
 use Rattle.serde_json.specs.Data.{Data}

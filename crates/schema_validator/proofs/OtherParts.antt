@@ -62,7 +62,7 @@ module _ {S K R R' : Type 0} (resolver : Resolver S) (table : Table K) (matcher 
   pub numbered_too : (keys : Numbers S) (nodes : Nodes K) → AreNumbered w keys nodes → AreNumbered w' keys nodes
   numbered_too keys nodes n = record { stands = λ i k is. stands_for_too keys nodes k i (n.stands i k is); once = n.once; guards = n.guards }
 
--- no cause of refusal stands by the one, where none stands by the other
+-- there is no cause of refusal by the one, if there is none by the other
 pub compiles_too : {S K R R' : Type 0} (resolver : Resolver S) (table : Table K) (matcher matcher' : Matcher) (keywords : Keywords K R) (keywords' : Keywords K R') (options : Options) (root : Key S)
     → Compiles (parts_of resolver table matcher keywords options) root → Compiles (parts_of resolver table matcher' keywords' options) root
 compiles_too resolver table matcher matcher' keywords keywords' options root compiles = λ cause stands. compiles cause (stands_too resolver table matcher' matcher keywords' keywords options stands)

@@ -44,7 +44,7 @@ use Rattle.schema_validator.proofs.RootKeys.{one_root_key, root_key_of, root_key
 -- ---- where the errors of a call come from
 
 module _ (v : Sense) where
-  -- some completion gives the error
+  -- some outcome produces the error
   abbrev Given : Error → Type 0
   Given e = (c : Completion) × Contains (v.says c).errors e
 
@@ -135,7 +135,7 @@ module _ {S K R C M : Type 0} (resolver : Resolver S) (table : Table K) (matcher
   -- ---- what a build and a call say, together
 
   module _ (is_whole : K → Bool) (meant : MeansSchema resolver table matcher words options schema shape is_whole matching p) (points : PointsIntoSchema resolver table matcher words options schema shape matching p) (instance : Data) where
-    -- an error that a completion gives points at keyword and value
+    -- an error that an outcome produces points at keyword and value
     given_points : (texts : Bool) (root : Key S) (v : Sense) → EachLeads (w texts) root instance v → (e : ValidationError) → IsGiven v texts e → PointsAt (w texts) root instance (error_of texts e)
     given_points texts root v lead e given = All-contains (PointsAt (w texts) root instance) (v.says given.0).errors (error_of texts e) (lead given.0) given.1
 

@@ -1,6 +1,6 @@
--- What a build answers, by all that is handed in to it: what the types of the parts say of themselves, the resolver, the table and the
--- matcher, then the options and the schema. Each word says of these what `Called`, `Greatest`, `FirstCauses` and `Mapped` say of what
--- they stand for.
+-- The answers of a build, by its input: the members of the parts' traits, the resolver, the table
+-- and the matcher, then the options and the schema. Each word says of these what `Called`,
+-- `Greatest`, `FirstCauses` and `Mapped` say of their data.
 use Rattle.std.specs.Prelude.{List, ℕ}
 use Rattle.serde_json.specs.View.{view}
 use Rattle.serde_json.specs.declared.value.Value.{Value}
@@ -28,7 +28,7 @@ module _ {A P S T C Maker Run K M : Type 0} (r : ResolverMembers A P S) (t : Tab
 
   -- ---- a validator of nodes that were compiled from these parts, with a key's number
 
-  -- it means the key's plain meaning, where no chain of references returns
+  -- it means the key's plain meaning, if no chain of references returns
   abbrev pub MeansFromNodes : List (NodeEntry C) → ℕ → Program C M → Type 0
   MeansFromNodes nodes number p = MeansAsCompiled parts nodes number p
 
@@ -39,7 +39,7 @@ module _ {A P S T C Maker Run K M : Type 0} (r : ResolverMembers A P S) (t : Tab
   module _ (options : Options) (schema : Value) where
     -- ---- a validator that is built of a schema
 
-    -- it means the plain meaning of schema and parts, where no chain of references returns
+    -- it means the plain meaning of schema and parts, if no chain of references returns
     abbrev pub MeansAsBuilt : Program C M → Type 0
     MeansAsBuilt p = MeansPlainly parts options (view schema) p
 
@@ -47,7 +47,7 @@ module _ {A P S T C Maker Run K M : Type 0} (r : ResolverMembers A P S) (t : Tab
     abbrev pub HasUnitsAsBuilt : Program C M → Type 0
     HasUnitsAsBuilt p = HasPlainUnits parts options (view schema) p
 
-    -- each error that its nodes give points at a keyword of the schema and at a value inside the instance
+    -- each error of its nodes points at a keyword of the schema and at a value inside the instance
     abbrev pub PointsAsBuilt : Program C M → Type 0
     PointsAsBuilt p = PointsPlainly parts options (view schema) p
 
@@ -55,19 +55,21 @@ module _ {A P S T C Maker Run K M : Type 0} (r : ResolverMembers A P S) (t : Tab
     abbrev pub UnitsPointAsBuilt : Program C M → Type 0
     UnitsPointAsBuilt p = UnitsPointPlainly parts options (view schema) p
 
-    -- where keywords are monotone, its nodes accept as the greatest solution of the schema does
+    -- if keywords are monotone, its nodes accept as the greatest solution of the schema does
     abbrev pub AcceptsAsBuilt : Program C M → Type 0
     AcceptsAsBuilt p = AcceptsAsSchema parts options (view schema) p
 
-    -- its nodes are those of the keys that the root's key reaches, with this limit on nested targets; draft and matcher are those given
+    -- its nodes are those of the keys that the root's key reaches, with this limit on nested
+    -- targets; its draft is the root's, and its matcher answers as the one of the parts
     abbrev pub IsBuiltWith : ℕ → Program C M → Type 0
     IsBuiltWith nested p = IsCompiledFrom parts options (view schema) nested p
 
-    -- no cause of refusal stands for what the root reaches, and that is no more than the limit
+    -- there is no cause to refuse what the root reaches, and that is within the limit
     abbrev pub CanBeBuilt : Type 0
     CanBeBuilt = SchemaBuilds parts options (view schema)
 
-    -- the error names a cause that stands, or that the meta validators refuse a document of the schema, where the check is on
+    -- the error names a cause that holds, or a document of the schema that the meta validators
+    -- refuse, if the check is on
     abbrev pub RefusesToBuild : MetaChecks → BuildError → Type 0
     RefusesToBuild refuses e = BuildRefused parts refuses options (view schema) e
 
@@ -85,7 +87,8 @@ module _ {A P S T C Maker Run K M : Type 0} (r : ResolverMembers A P S) (t : Tab
     abbrev pub HoldsEachThere : Entries (Program C M) → Type 0
     HoldsEachThere es = HoldsEach parts options (view schema) es
 
-    -- each validator means the plain meaning of the key of its place, where no chain of references returns
+    -- each validator means the plain meaning of the key of its place, if no chain of references
+    -- returns
     abbrev pub EachMeansAsBuilt : Entries (Program C M) → Type 0
     EachMeansAsBuilt es = EachMeansPlainly parts options (view schema) es
 
@@ -101,7 +104,7 @@ module _ {A P S T C Maker Run K M : Type 0} (r : ResolverMembers A P S) (t : Tab
     abbrev pub EachsUnitsPointAsBuilt : Entries (Program C M) → Type 0
     EachsUnitsPointAsBuilt es = EachsUnitsPoint parts options (view schema) es
 
-    -- where keywords are monotone, its nodes accept as the greatest solution of that key does
+    -- if keywords are monotone, its nodes accept as the greatest solution of that key does
     abbrev pub EachAcceptsAsBuilt : Entries (Program C M) → Type 0
     EachAcceptsAsBuilt es = EachAcceptsGreatest parts options (view schema) es
 
@@ -109,7 +112,7 @@ module _ {A P S T C Maker Run K M : Type 0} (r : ResolverMembers A P S) (t : Tab
     abbrev pub EachSolvesAsBuilt : Entries (Program C M) → Type 0
     EachSolvesAsBuilt es = EachHasSolver parts options (view schema) es
 
-    -- its nodes are those of the keys that its own key reaches, which are no more than the limit
+    -- its nodes are those of the keys that its own key reaches, which are within the limit
     abbrev pub EachIsBuilt : Entries (Program C M) → Type 0
     EachIsBuilt es = EachIsCompiledFrom parts options (view schema) es
 

@@ -1,5 +1,5 @@
--- What a validator is made of, and what is said of the answers of its calls: where they may stop at its limit of steps, where they are
--- bounded by a budget, and where its solver is asked.
+-- The parts of a validator, and the answers of its calls: if they may stop at its limit on steps,
+-- if they have a budget, and if they use its solver.
 use Rattle.std.specs.Prelude.{All, Bool, IfSome, List, Option, Result, false, is_some, true, ℕ, ◌≡◌}
 use Rattle.serde_json.specs.Data.{Data}
 use Rattle.serde_json.specs.View.{view}
@@ -24,40 +24,43 @@ use Rattle.schema_validator.specs.Greatest.{NodesAreMonotone}
 abbrev pub IsMadeOf : {C M : Type 0} → List (NodeEntry C) → ℕ → Draft → Program C M → Type 0
 IsMadeOf nodes root draft p = (p.nodes ≡ nodes) × (p.root ≡ root) × (p.draft ≡ draft)
 
--- each keyword of its nodes is monotone, whether texts are spoken of or not
+-- each keyword of its nodes is monotone, whether texts are covered or not
 abbrev pub AllAreMonotone : {C Run K M : Type 0} → KeywordMembers C Run K → Program C M → Type 0
 AllAreMonotone k p = (texts : Bool) → NodesAreMonotone k.shape k.words p texts
 
 -- ---- an answer of which a word of a call says something, as those of `Asked` and `Greatest`
 
 module _ {C Run K M : Type 0} (k : KeywordMembers C Run K) (m : MatcherMembers M) (p : Program C M) (instance : Value) where
-  -- the verdict is so; or the call stopped at the validator's limit, and it is no
+  -- this holds of the verdict; or the call stopped at the validator's limit, and the verdict is
+  -- `false`
   abbrev pub IsSoOrNo : (KeywordMembers C Run K → MatcherMembers M → Program C M → Data → Bool → Type 0) → Bool → Type 0
   IsSoOrNo fact valid = UnlessStopped p.work (λ limit. valid ≡ false) (fact k m p (view instance) valid)
 
-  -- the first error, or none, is so
+  -- this holds of the first error, or of none
   abbrev pub FirstIsSo : (KeywordMembers C Run K → MatcherMembers M → Program C M → Data → Option ValidationError → Type 0)
       → Result (Unit {0}) ValidationError → Type 0
   FirstIsSo fact r = fact k m p (view instance) (refusal_of r)
 
-  -- it is so; or the call stopped at that limit, and it tells of the limit
+  -- this holds of the first error; or the call stopped at that limit, and the error reports the
+  -- limit
   abbrev pub FirstIsSoOrTells : (KeywordMembers C Run K → MatcherMembers M → Program C M → Data → Option ValidationError → Type 0)
       → Result (Unit {0}) ValidationError → Type 0
   FirstIsSoOrTells fact r = UnlessStopped p.work (FirstTellsLimit (view instance) (refusal_of r)) (fact k m p (view instance) (refusal_of r))
 
-  -- the errors are so; or the call stopped there, and the only one tells of the limit
+  -- this holds of the errors; or the call stopped there, and the only error reports the limit
   abbrev pub AreSoOrTell : (KeywordMembers C Run K → MatcherMembers M → Program C M → Data → List ValidationError → Type 0)
       → List ValidationError → Type 0
   AreSoOrTell fact es = UnlessStopped p.work (OnlyTellsLimit (view instance) es) (fact k m p (view instance) es)
 
-  -- the units are so; or the call stopped there, and they are made of the error that tells of the limit
+  -- this holds of the units; or the call stopped there, and they are made of the error that reports
+  -- the limit
   abbrev pub AreSoOrGiveLimit : (KeywordMembers C Run K → MatcherMembers M → Program C M → Data → EvaluationNode → Type 0)
       → EvaluationNode → Type 0
   AreSoOrGiveLimit fact u = UnlessStopped p.work (GivesLimit u) (fact k m p (view instance) u)
 
--- ---- where errors borrow
+-- ---- what errors borrow
 
--- the first error, where there is one, borrows what stands at its place in the instance
+-- the first error, if there is one, borrows the value at its place in the instance
 abbrev pub FirstBorrows : Value → Result (Unit {0}) ValidationError → Type 0
 FirstBorrows instance r = IfSome (refusal_of r) (BorrowsItsPlace (view instance))
 
@@ -67,28 +70,28 @@ EachBorrows instance es = All (BorrowsItsPlace (view instance)) es
 
 -- ---- a budget
 
--- where the call stopped, none is left of it
+-- if the call stopped, nothing is left of the budget
 abbrev pub IsSpentIfStopped : Budget → Type 0
 IsSpentIfStopped w = w.stopped ≡ true → IsSpent w
 
--- a budget at which nothing had stopped is still one
+-- a budget that was not stopped is still not stopped
 abbrev pub StaysUnstopped : Budget → Budget → Type 0
 StaysUnstopped old new = old.stopped ≡ false → new.stopped ≡ false
 
 -- ---- what a solver finds, or nothing
 
--- a verdict of which this holds
+-- if there is a verdict, this holds of it
 abbrev pub FindsVerdict : (Bool → Type 0) → Option SolvedVerdict → Type 0
 FindsVerdict Holds found = IfSome found (λ v. Holds v.valid)
 
--- a verdict with a context, of which this holds
+-- if there is a verdict with a context, this holds of them
 abbrev pub FindsWith : (SolvedVerdict → Type 0) → Option SolvedVerdict → Type 0
 FindsWith Holds found = IfSome found Holds
 
--- something, exactly where the validator has a solver
+-- there is a verdict exactly if the validator has a solver
 abbrev pub FindsBySolver : {C M : Type 0} → Program C M → Option SolvedVerdict → Type 0
 FindsBySolver p found = is_some found ≡ is_some p.followed
 
--- something, only where it has one
+-- there is a verdict only if it has one
 abbrev pub FindsOnlyBySolver : {C M : Type 0} → Program C M → Option SolvedVerdict → Type 0
 FindsOnlyBySolver p found = is_some found ≡ true → is_some p.followed ≡ true

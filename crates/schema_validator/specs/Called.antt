@@ -1,5 +1,6 @@
--- What a build answers of a schema, and what the calls of schema and instance answer: the sentences that their clauses cite,
--- over all that is handed in. They are those of `Promised`, `ProgramOf`, `Roots`, `Spoken` and `Pointing`.
+-- The answers of a build about a schema, and of the calls about schema and instance: the sentences
+-- that their clauses cite, over the parts. They are those of `Promised`, `ProgramOf`, `Roots`,
+-- `Spoken` and `Pointing`.
 use Rattle.std.specs.Prelude.{Bool, List, Option, ℕ, ◌⊎◌}
 use Rattle.serde_json.specs.Data.{Data}
 use Rattle.theory_definitions.specs.Cover.{Sense, is_valid}
@@ -24,19 +25,20 @@ use Rattle.schema_validator.specs.Promised.{HasKeysUnits, HasSchemasUnits, Means
 use Rattle.schema_validator.specs.Roots.{Builds, RefusesBuild}
 use Rattle.schema_compiled.specs.Spoken.{ErrorsAnswered, FirstAnswered}
 
--- what is handed in, the options, and the schema
+-- the parts, the options, and the schema
 module _ {S K R C M : Type 0} (h : Handed S K R C M) (options : Options) (schema : Data) where
   -- ---- a build
 
-  -- the validator means the plain meaning of schema and parts, where no chain of references returns
+  -- the validator means the plain meaning of schema and parts, if no chain of references returns
   abbrev pub MeansPlainly : Program C M → Type 0
   MeansPlainly p = MeansSchema h.resolver h.table h.matcher h.words options schema h.shape h.is_whole h.matching p
 
-  -- the validator has the units of the plain meaning of schema and parts, where no chain of references returns
+  -- the validator has the units of the plain meaning of schema and parts, if no chain of references returns
   abbrev pub HasPlainUnits : Program C M → Type 0
   HasPlainUnits p = HasSchemasUnits h.resolver h.table h.matcher h.words options schema h.shape h.is_whole h.matching p
 
-  -- each error that its nodes give points at a keyword of the schema that its evaluation path leads to, and at a value inside the instance
+  -- each error of its nodes points at a keyword of the schema that its evaluation path leads to,
+  -- and at a value inside the instance
   abbrev pub PointsPlainly : Program C M → Type 0
   PointsPlainly p = PointsIntoSchema h.resolver h.table h.matcher h.words options schema h.shape h.matching p
 
@@ -44,28 +46,30 @@ module _ {S K R C M : Type 0} (h : Handed S K R C M) (options : Options) (schema
   abbrev pub UnitsPointPlainly : Program C M → Type 0
   UnitsPointPlainly p = UnitsPointIntoSchema h.resolver h.table h.matcher h.words options schema h.shape h.matching p
 
-  -- its nodes correspond one to one to the keys that the root's key reaches, found in the one order that the schema and the
-  -- limit on nested targets give; an edge is guarded exactly where its target was in progress when it was made, or an unsettled
-  -- number of an earlier round; its draft is the root's, and its matcher answers as the one that is handed in
+  -- its nodes correspond one to one to the keys that the root's key reaches, found in the one order
+  -- that the schema and the limit on nested targets determine; an edge is guarded exactly if, when
+  -- it was made, its target was in progress, or had a number of an earlier round that was not
+  -- final; its draft is the root's, and its matcher answers as the one of the parts
   abbrev pub IsCompiledFrom : ℕ → Program C M → Type 0
   IsCompiledFrom nested p = IsProgramOf h.resolver h.table h.matcher options nested schema h.shape h.matching p
 
-  -- no cause of refusal stands for what the root reaches, and that is no more than the limit
+  -- there is no cause to refuse what the root reaches, and that is within the limit
   abbrev pub SchemaBuilds : Type 0
   SchemaBuilds = (texts : Bool) → Builds (parts_of h.resolver h.table h.matcher (h.words texts) options) schema options.limit
 
-  -- the error names a cause that stands, or more keys are reached than the limit
+  -- the error names a cause that holds, or more keys are reached than the limit
   abbrev pub SchemaRefused : BuildError → Type 0
   SchemaRefused e = (texts : Bool) → RefusesBuild (parts_of h.resolver h.table h.matcher (h.words texts) options) schema options.limit e
 
   -- ---- a call of an instance
 
   module _ (instance : Data) where
-    -- a fact about the plain meaning of each root key, where no chain of references returns
+    -- a fact about the plain meaning of each root key, if no chain of references returns
     abbrev pub PlainlyOf : (Bool → Sense → Type 0) → Type 0
     PlainlyOf fact = OfSchema h.resolver h.table h.matcher h.words options schema instance (λ texts w root. Plainly w root instance (fact texts))
 
-    -- a fact about what the nodes compiled from the schema say from some depth on, where chains of references return too
+    -- a fact about what the nodes compiled from the schema say from some depth on, even if chains
+    -- of references return
     abbrev pub GuardedlyOf : (Bool → Sense → Type 0) → Type 0
     GuardedlyOf fact = (p : Program C M) × IsProgramOf h.resolver h.table h.matcher options options.nested schema h.shape h.matching p
         × FromSomeDepth h.shape h.words h.is_whole h.matching p instance fact
@@ -76,19 +80,19 @@ module _ {S K R C M : Type 0} (h : Handed S K R C M) (options : Options) (schema
         × OfSchema h.resolver h.table h.matcher h.words options schema instance
         (λ texts w root. means.FromSomeDepth (h.words texts) (h.matching p.matcher) (numbered h.shape p.nodes) p.root instance (λ v. fact w root v texts))
 
-    -- the verdict is the plain meaning's
+    -- the verdict is the one of the plain meaning
     abbrev pub DecidesPlainly : Bool → Type 0
     DecidesPlainly valid = OfSchema h.resolver h.table h.matcher h.words options schema instance (λ texts w root. IsValidAnswer w root instance options.runs valid)
 
-    -- it is what nodes compiled from the schema say from some depth on
+    -- it is the one of nodes compiled from the schema, from some depth on
     abbrev pub DecidesGuardedly : Bool → Type 0
     DecidesGuardedly valid = GuardedlyOf (λ texts v. VerdictSays v options.runs is_valid valid)
 
-    -- the first error, or none, is the plain meaning's
+    -- the first error, or none, is the one of the plain meaning
     abbrev pub FirstPlainly : Option ValidationError → Type 0
     FirstPlainly o = PlainlyOf (λ texts v. FirstAnswered v options.runs texts o)
 
-    -- it is what nodes compiled from the schema say from some depth on
+    -- it is the one of nodes compiled from the schema, from some depth on
     abbrev pub FirstGuardedly : Option ValidationError → Type 0
     FirstGuardedly o = GuardedlyOf (λ texts v. FirstAnswered v options.runs texts o)
 
@@ -96,27 +100,28 @@ module _ {S K R C M : Type 0} (h : Handed S K R C M) (options : Options) (schema
     abbrev pub FirstLeads : Option ValidationError → Type 0
     FirstLeads o = PointingOf (λ w root v texts. FirstPoints w root instance v options.runs texts o)
 
-    -- the errors, in order, are the plain meaning's
+    -- the errors, in order, are those of the plain meaning
     abbrev pub ErrorsPlainly : List ValidationError → Type 0
     ErrorsPlainly es = PlainlyOf (λ texts v. ErrorsAnswered v options.runs texts es)
 
-    -- they are what nodes compiled from the schema say from some depth on
+    -- they are those of nodes compiled from the schema, from some depth on
     abbrev pub ErrorsGuardedly : List ValidationError → Type 0
     ErrorsGuardedly es = GuardedlyOf (λ texts v. ErrorsAnswered v options.runs texts es)
 
-    -- the evaluation's verdict is the plain meaning's, and so are the errors that its units are made of
+    -- the evaluation's verdict is the one of the plain meaning, and so are the errors that its
+    -- units are made of
     abbrev pub EvaluatesPlainly : EvaluationNode → Type 0
     EvaluatesPlainly u = PlainlyOf (λ texts v. EvaluationAnswered v options.runs texts u)
 
-    -- they are what nodes compiled from the schema say from some depth on
+    -- they are those of nodes compiled from the schema, from some depth on
     abbrev pub EvaluatesGuardedly : EvaluationNode → Type 0
     EvaluatesGuardedly u = GuardedlyOf (λ texts v. EvaluationAnswered v options.runs texts u)
 
-    -- where no match stays unfinished, the units are those of the plain meaning, under every outcome
+    -- if no match stays unfinished, the units are those of the plain meaning, under every outcome
     abbrev pub UnitsPlainly : EvaluationNode → Type 0
     UnitsPlainly u = OfSchema h.resolver h.table h.matcher h.words options schema instance (λ texts w root. PlainlyWithUnits w root instance (λ v units. UnitsAnswered v texts units u))
 
-    -- where no match stays unfinished, the units are those of nodes compiled from the schema
+    -- if no match stays unfinished, the units are those of nodes compiled from the schema
     abbrev pub UnitsGuardedly : EvaluationNode → Type 0
     UnitsGuardedly u = (p : Program C M) × IsProgramOf h.resolver h.table h.matcher options options.nested schema h.shape h.matching p
         × HasUnits h.shape h.words h.is_whole h.matching p instance u
@@ -129,12 +134,13 @@ module _ {S K R C M : Type 0} (h : Handed S K R C M) (options : Options) (schema
     abbrev pub UnitsLead : EvaluationNode → Type 0
     UnitsLead u = PointingOf (λ w root v texts. EvaluationPoints w root instance v options.runs texts u)
 
--- the error says so of schema and parts, or that a meta validator refuses a document of the schema, where the check is on
+-- the error names a cause that holds of schema and parts, or a document of the schema that a meta
+-- validator refuses, if the check is on
 abbrev pub BuildRefused : {S K R C M : Type 0} → Handed S K R C M → MetaChecks → Options → Data → BuildError → Type 0
 BuildRefused h refuses options schema e = SchemaRefused h options schema e ⊎ FailsCheck h.resolver refuses options schema e
 
--- from whatever key and by whatever options nodes are compiled, with this number for the key, the validator means the plain
--- meaning of this key by these options
+-- the validator means the plain meaning of any key by any options, if the nodes are compiled from
+-- this key by these options, with this number for the key
 abbrev pub MeansAsCompiled : {S K R C M : Type 0} → Handed S K R C M → List (NodeEntry C) → ℕ → Program C M → Type 0
 MeansAsCompiled {S} h nodes number p = (options : Options) (key : Key S) → IsCompiled (parts_of h.resolver h.table no_matcher no_keywords options) h.shape key nodes number
     → MeansKey h.resolver h.table h.matcher h.words options key h.shape h.is_whole h.matching p

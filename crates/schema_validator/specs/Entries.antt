@@ -1,5 +1,5 @@
--- What is known of an entry of a map while the map is built: the validator at a place, why there is none, and what the map holds
--- of the places that were passed.
+-- Facts about an entry of a map during the build: the validator at a place, why there is none, and
+-- what the map holds of the places so far.
 use Rattle.std.specs.Prelude.{Bool, List, Option, Some, [], bytes_eq, flat_map, if◌then◌else◌, length, MatchOption, ◌≡◌, ◌≤◌, ◌⊎◌}
 use Rattle.serde_json.specs.Data.{Data}
 use Rattle.theory_definitions.specs.Instance.{Place, Text}
@@ -32,7 +32,7 @@ module _ {S K R C M : Type 0} (h : Handed S K R C M) (options : Options) where
   RefusesAlone key e = (texts : Bool) → compilation.RefusesAlone (parts texts) options.limit key e
 
   module _ (root : Key S) (path : Place) where
-    -- what stands there does not compile
+    -- the schema there does not compile
     abbrev pub IsLeftOut : Type 0
     IsLeftOut = (texts : Bool) → ¬ (IsCompiled (parts texts) root path)
 
@@ -40,7 +40,7 @@ module _ {S K R C M : Type 0} (h : Handed S K R C M) (options : Options) where
     abbrev pub FailsEntry : BuildError → Type 0
     FailsEntry e = (texts : Bool) → RefusesKeyAlone (entry_key (parts texts) root path) e ⊎ ((key : Key S) × (entry_key (parts texts) root path ≡ Some key) × compilation.RefusesAlone (parts texts) options.limit key e)
 
-    -- a refusal of the whole map, for one entry: want of memory, or it reaches more keys than the limit
+    -- a refusal of the whole map, for one entry: lack of memory, or it reaches more keys than the limit
     abbrev pub RefusesEntry : BuildError → Type 0
     RefusesEntry e = (texts : Bool) → (e ≡ OutOfMemory) ⊎ ((key : Key S) × (entry_key (parts texts) root path ≡ Some key) × RefusesLimit (parts texts) options key e)
 
@@ -49,7 +49,8 @@ abbrev pub RefusesOneOf : {S K R C M : Type 0} → Handed S K R C M → Options 
 RefusesOneOf h options root paths e = (path : Place) × In paths path × RefusesEntry h options root path e
 
 module _ {S K R C M : Type 0} (h : Handed S K R C M) (options : Options) (schema : Data) where
-  -- a validator that is compiled from a key, which has no cause of refusal but for its own vocabularies
+  -- a validator that is compiled from a key for which there is no cause of refusal, except its own
+  -- vocabularies
   pub record IsCompiledAlone (key : Key S) (p : Program C M) : Type 0 where
     pub means : MeansKey h.resolver h.table h.matcher h.words options key h.shape h.is_whole h.matching p
     pub units : HasKeysUnits h.resolver h.table h.matcher h.words options key h.shape h.is_whole h.matching p
@@ -66,7 +67,7 @@ module _ {S K R C M : Type 0} (h : Handed S K R C M) (options : Options) (schema
     abbrev pub IsEntry : Place → Program C M → Type 0
     IsEntry path p = (key : Key S) × ((texts : Bool) → entry_key (parts h options texts) root path ≡ Some key) × IsCompiledAlone key p
 
-    -- the map has the validator of one more place, or what stands there does not compile
+    -- the map has the validator of one more place, or the schema there does not compile
     abbrev pub IsPut : Place → Entries (Program C M) → Entries (Program C M) → Type 0
     IsPut path old new = (IsLeftOut h options root path × (new ≡ old))
         ⊎ ((p : Program C M) × IsEntry path p × ((name : Text) → at_pointer new name ≡ (if bytes_eq (name_of path) name then Some p else at_pointer old name)))
@@ -77,7 +78,8 @@ module _ {S K R C M : Type 0} (h : Handed S K R C M) (options : Options) (schema
         (Each (λ path. name ≡ name_of path → IsLeftOut h options root path) paths)
         (λ p. (path : Place) × (name ≡ name_of path) × IsEntry path p)
 
-    -- a map of what stands at the root: the schema is accepted, the root's vocabularies are declared, and the map holds what compiles of the document
+    -- a map of the document at the root: the schema is accepted, the root's vocabularies are
+    -- declared, and the map holds what compiles of the document
     pub record IsMade (refuses : MetaChecks) (es : Entries (Program C M)) : Type 0 where
       pub accepted : AcceptsSchema h.resolver refuses root.target.draft root.target.place
       pub declared : (texts : Bool) → flat_map (undeclared (parts h options texts)) root.target.vocabularies ≡ []

@@ -1,7 +1,8 @@
--- Which of several causes a refusal names. The draft and the base of the root come first; then the check by the meta validators,
--- where it is on, and in it the first document that is not accepted; then the vocabularies that the root requires, and of them the
--- first that is not declared; and last what is compiled, with the limit on keys. So each names something only where nothing before it
--- is refused. Want of memory says nothing.
+-- Which of several causes a refusal names. The draft and the base of the root come first; then the
+-- check by the meta validators, if it is on, and in it the first document that is not accepted;
+-- then the vocabularies that the root requires, and of them the first that is not declared; and
+-- last what is compiled, with the limit on keys. So each cause is named only if nothing before it
+-- is refused. Lack of memory says nothing.
 use Rattle.std.specs.Prelude.{Bool, Some, [], flat_map, true, ◌≡◌}
 use Rattle.serde_json.specs.Data.{Data}
 use Rattle.theory_definitions.specs.Instance.{Place}
@@ -20,7 +21,7 @@ use Rattle.schema_validator.specs.Mapped.{RefusesLimit}
 use Rattle.schema_validator.specs.Roots.{IsRootKey, RefusesKey}
 
 module _ {S K R : Type 0} (w : Parts S K R) (schema : Data) (refuses : MetaChecks) (checks : Bool) (compiling : Key S → BuildError → Type 0) (e : BuildError) where
-  -- where the check is on, each document of the schema is accepted
+  -- if the check is on, each document of the schema is accepted
   abbrev pub IsChecked : Key S → Type 0
   IsChecked root = checks ≡ true → AcceptsSchema w.resolver refuses root.target.draft root.target.place
 
@@ -41,12 +42,12 @@ pub record IsPastLimit {S K R : Type 0} (w : Parts S K R) (options : Options) (r
   pub is_key : entry_key w root path ≡ Some key
   pub passes : RefusesLimit w options key e
 
--- what is handed in, what the meta validators refuse, the options, and the schema
+-- the parts, what the meta validators refuse, the options, and the schema
 module _ {S K R C M : Type 0} (h : Handed S K R C M) (refuses : MetaChecks) (options : Options) (schema : Data) (e : BuildError) where
   abbrev parts : Bool → Parts S K R
   parts texts = parts_of h.resolver h.table h.matcher (h.words texts) options
 
-  -- the refusal of a build, which checks where the options ask for it, and compiles what the root reaches
+  -- the refusal of a build, which checks if the options ask for it, and compiles what the root reaches
   abbrev pub FirstOfBuild : Type 0
   FirstOfBuild = (texts : Bool) → NamesFirstCause (parts texts) schema refuses options.checks (RefusesAlone (parts texts) options.limit) e
 

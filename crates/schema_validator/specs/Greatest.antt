@@ -1,6 +1,7 @@
--- Where each keyword is monotone, what a validator answers is the greatest solution of its nodes, and they accept as the key or the
--- schema does that they are compiled from: the largest set of pairs, of a node or a target and of a place, that stands by itself
--- holds the root at the root place. So it is said of chains of references that return too.
+-- If each keyword is monotone, a validator answers by the greatest solution of its nodes, and they
+-- accept as the key or the schema does that they are compiled from: the largest set of pairs, of a
+-- node or a target and of a place, that supports itself holds the root at the root place. This
+-- holds even if chains of references return.
 use Rattle.std.specs.Prelude.{Bool, List, Option, [], is_none, length, true, ◌↔◌, ◌≡◌}
 use Rattle.serde_json.specs.Data.{Data}
 use Rattle.theory_definitions.specs.Matching.{Completion, Matcher}
@@ -29,7 +30,7 @@ abbrev pub NodesAreMonotone : {K S R M : Type 0} → (K → S) → (Bool → Key
 NodesAreMonotone shape words p texts = AreMonotone (words texts) (numbered shape p.nodes) (length p.nodes)
 
 module _ {K S R M : Type 0} (shape : K → S) (words : Bool → Keywords S R) (matching : M → Matcher) (p : Program K M) (texts : Bool) where
-  -- under every completion, the largest set of numbers and places that stands by itself holds the root's number at the root place
+  -- under every outcome of the matches, the largest set of numbers and places that supports itself holds the root's number at the root place
   abbrev pub NodesAccept : Data → Type 0
   NodesAccept instance = (c : Completion) → NodeAcceptsGreatest (words texts) (matching p.matcher) (numbered shape p.nodes) (subject_in instance) c (length p.nodes) p.root []
 
@@ -37,13 +38,14 @@ module _ {K S R M : Type 0} (shape : K → S) (words : Bool → Keywords S R) (m
 
 -- C is a keyword of the code, K what is known of it, M a matcher of the code
 module _ {C Run K M : Type 0} (keywords : KeywordMembers C Run K) (matchers : MatcherMembers M) (p : Program C M) (instance : Data) where
-  -- where each keyword of the nodes is monotone and the call decides, its answer is a yes exactly if the nodes accept; from some depth on
+  -- if each keyword of the nodes is monotone and the call decides, its answer is "valid" exactly if
+  -- the nodes accept; from some depth on
   abbrev pub SaysAccepted : Call → (Bool → Bool) → Type 0
   SaysAccepted call answer = FromSomeDepth keywords.shape keywords.words keywords.is_whole matchers.matching p instance
       (λ texts v. NodesAreMonotone keywords.shape keywords.words p texts → Decides v p.runs call
       → (answer texts ≡ true) ↔ NodesAccept keywords.shape keywords.words matchers.matching p texts instance)
 
-  -- the verdict is a yes
+  -- the verdict is "valid"
   abbrev pub DecidesAccepted : Bool → Type 0
   DecidesAccepted valid = SaysAccepted is_valid (λ texts. valid)
 
@@ -55,20 +57,21 @@ module _ {C Run K M : Type 0} (keywords : KeywordMembers C Run K) (matchers : Ma
   abbrev pub ErrorsAccepted : List ValidationError → Type 0
   ErrorsAccepted es = SaysAccepted iter_errors (λ texts. is_empty es)
 
-  -- the evaluation's verdict is a yes
+  -- the evaluation's verdict is "valid"
   abbrev pub EvaluatesAccepted : EvaluationNode → Type 0
   EvaluatesAccepted u = SaysAccepted evaluate (λ texts. verdict_in texts u)
 
 -- ---- a build
 
--- what is handed in, and the options
+-- the parts, and the options
 module _ {S K R C M : Type 0} (h : Handed S K R C M) (options : Options) where
   abbrev pub parts : Bool → Parts S K R
   parts texts = parts_of h.resolver h.table h.matcher (h.words texts) options
 
-  -- of a validator and the key that it is compiled from: where each keyword of what the key reaches is monotone, so is each of the
-  -- nodes; and where each of these is, the nodes accept an instance exactly if, under every completion, the largest set of targets
-  -- and places that stands by itself holds the key's target at the root place
+  -- of a validator and the key that it is compiled from: if each keyword of what the key reaches is
+  -- monotone, so is each of the nodes; and if each of these is, the nodes accept an instance
+  -- exactly if, under every outcome of the matches, the largest set of targets and places that
+  -- supports itself holds the key's target at the root place
   pub record AcceptAlike (texts : Bool) (key : Key S) (p : Program C M) : Type 0 where
     pub monotone : EachIsMonotone (parts texts) key → NodesAreMonotone h.shape h.words p texts
     pub accepts : NodesAreMonotone h.shape h.words p texts → (instance : Data) → NodesAccept h.shape h.words h.matching p texts instance ↔ AcceptsEach (parts texts) key instance

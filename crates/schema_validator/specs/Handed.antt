@@ -1,5 +1,5 @@
--- What is handed in to a build, as data: the options, the parts that options, resolver, table, matcher and keywords make
--- together, and what the code's own values stand for.
+-- The input of a build, as data: the options, and the parts, which are the resolver, the table, the
+-- matcher and the keywords; and the values of the code as such data.
 use Rattle.std.specs.Prelude.{ℕ, List, [], Bool, Option, None, true}
 use Rattle.serde_json.specs.Data.{Members}
 use Rattle.theory_definitions.specs.Instance.{Text}
@@ -26,23 +26,24 @@ pub record Options : Type 0 where
   pub checks : Bool
   -- how many runs a call makes at most
   pub runs : ℕ
-  -- how many steps a call takes at most, where there is a limit: a node that is asked at a place is one, and a pair that a solver begins
+  -- how many steps a call takes at most, if there is a limit: each evaluation of a node at a place
+  -- is a step, and each pair that a solver begins
   pub work : Option ℕ
   -- how many targets of references are compiled one inside another
   pub nested : ℕ
 
--- how many runs a call makes at most, where no option says otherwise
+-- how many runs a call makes at most by default
 abbrev pub default_runs : ℕ
 default_runs = 64
 
--- how many targets of references are compiled one inside another, where no option and no call says otherwise
+-- how many targets of references are compiled one inside another by default
 abbrev pub default_nested : ℕ
 default_nested = 8
 
 abbrev pub default_options : Options
 default_options = record { draft = None; base = None; formats = None; declared = []; limit = 65536; checks = true; runs = default_runs; work = None; nested = default_nested }
 
--- options with these limits on runs and on nested targets, and else the same
+-- options with these limits on runs and on nested targets, and otherwise the same
 abbrev pub limited : Options → ℕ → ℕ → Options
 limited options runs nested = record options { runs = runs; nested = nested }
 
@@ -63,9 +64,9 @@ parts_of resolver table matcher keywords options = record {
   declared = options.declared;
 }
 
--- The resolver, the table and the matcher that are handed in, as data, and how keywords run; and what a keyword and a
--- matcher of the code stand for. S is what a state stands for, K what is known of a keyword, R a run with its answer so far,
--- C a keyword of the code, M a matcher of it.
+-- The parts: the resolver, the table and the matcher, as data, and how keywords run; and the data
+-- of a keyword and of a matcher of the code. S is the data of a state, K what is known of a
+-- keyword, R a run with its answer so far, C a keyword of the code, M a matcher of it.
 pub record Handed (S K R C M : Type 0) : Type 0 where
   pub resolver : Resolver S
   pub table : Table K
@@ -76,7 +77,7 @@ pub record Handed (S K R C M : Type 0) : Type 0 where
   pub says_monotone : K → Bool
   pub matching : M → Matcher
 
--- what values of the code stand for, by the members of their traits
+-- the data of these values of the code, by the members of their traits
 abbrev pub handed : {A State S T C Maker Run K M : Type 0} → ResolverMembers A State S → TableMembers T C Maker Run K → KeywordMembers C Run K → MatcherMembers M
     → A → T → M → Handed S K (Run × Answer) C M
 handed resolvers tables keywords matchers resolver table matcher = record {

@@ -1,4 +1,4 @@
--- What is said while a map is built, of what it is built from.
+-- Facts about the build of a map, by its input.
 use Rattle.std.specs.Prelude.{List, MatchOption, MatchResult, Option, Result}
 use Rattle.serde_json.specs.View.{view}
 use Rattle.theory_definitions.specs.Instance.{Place}
@@ -24,15 +24,15 @@ use Rattle.schema_validator.specs.RootWords.{IsKeyOfRoot}
 use Rattle.schema_validator.specs.declared.options.map.MapBuilding.{MapBuilding}
 
 module _ {A T M P S : Type 0} (r : ResolverMembers A P S) (b : MapBuilding A T M P S) where
-  -- the key that is held for the root's
+  -- the key that is used for the root
   abbrev pub root_held : Key S
   root_held = key_of r.point b.root.now
 
-  -- it is the root's
+  -- it is the root's key
   abbrev pub HoldsRootKey : Type 0
   HoldsRootKey = IsKeyOfRoot r b.resolver.now b.options.now b.schema.now b.root.now
 
-  -- the key of what stands at a path below the root, where it has one
+  -- the key of the schema at a path below the root, if it has one
   abbrev pub key_below : Place → Option (Key S)
   key_below path = entry_key (resolving_parts (r.resolving b.resolver.now)) root_held path
 
@@ -56,7 +56,7 @@ module _ {A T M P S C Maker Run K : Type 0} (r : ResolverMembers A P S) (t : Tab
 
   -- ---- of a path below the root
 
-  -- the validator of the schema that stands there
+  -- the validator of the schema there
   abbrev pub IsEntryAt : Place → Program C M → Type 0
   IsEntryAt path p = IsEntry parts b.options.now (view b.schema.now) (root_held r b) path p
 
@@ -68,7 +68,7 @@ module _ {A T M P S C Maker Run K : Type 0} (r : ResolverMembers A P S) (t : Tab
   abbrev pub GivesEntry : Place → Result (Program C M) BuildError → Type 0
   GivesEntry path result = MatchResult result (IsEntryAt path) (HasNoEntryAt path)
 
-  -- that validator; none where what stands there does not compile
+  -- that validator, or none if the schema there does not compile
   abbrev pub IsEntryIfCompiled : Place → Option (Program C M) → Type 0
   IsEntryIfCompiled path o = MatchOption o
       (IsLeftOut parts b.options.now (root_held r b) path)
@@ -78,15 +78,15 @@ module _ {A T M P S C Maker Run K : Type 0} (r : ResolverMembers A P S) (t : Tab
   abbrev pub RefusesForEntry : Place → BuildError → Type 0
   RefusesForEntry path e = RefusesEntry parts b.options.now (root_held r b) path e
 
-  -- so it is given where it compiles, or the whole map is refused
+  -- so it is returned if it compiles, or the whole map is refused
   abbrev pub GivesIfCompiled : Place → Result (Option (Program C M)) BuildError → Type 0
   GivesIfCompiled path result = MatchResult result (IsEntryIfCompiled path) (RefusesForEntry path)
 
-  -- the map has its validator too, or what stands there does not compile
+  -- the map has its validator too, or the schema there does not compile
   abbrev pub PutsEntry : Place → Entries (Program C M) → Entries (Program C M) → Type 0
   PutsEntry path old new = IsPut parts b.options.now (view b.schema.now) (root_held r b) path old new
 
-  -- so it is put, or the whole map is refused
+  -- so it is added, or the whole map is refused
   abbrev pub GivesPut : Place → Entries (Program C M) → Entries (Program C M) → Result (Unit {0}) BuildError → Type 0
   GivesPut path old new result = MatchResult result (λ _. PutsEntry path old new) (RefusesForEntry path)
 

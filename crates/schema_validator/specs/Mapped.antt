@@ -24,16 +24,16 @@ use Rattle.schema_compiled.specs.Solved.{HasSolver}
 use Rattle.schema_validator.specs.Promised.{HasKeysUnits, MeansKey, PointsFromKey, UnitsPointFromKey}
 use Rattle.schema_validator.specs.Roots.{IsRootKey, RefusesKey}
 
--- what a place of the document is called in the map
+-- the name in the map of a place of the document
 abbrev pub name_of : Place → Text
 name_of path = 35 ∷ pointer_to path
 
--- a refusal for the limit: more keys are reached
+-- a refusal because of the limit: more keys are reached
 abbrev pub RefusesLimit : {S K R : Type 0} → Parts S K R → Options → Key S → BuildError → Type 0
 RefusesLimit w options key (NodeLimit n) = (n ≡ options.limit) × ReachesMoreThan w options.limit key
 RefusesLimit w options key _ = ⊥
 
--- what is handed in, the options, and the schema
+-- the parts, the options, and the schema
 module _ {S K R C M : Type 0} (h : Handed S K R C M) (options : Options) (schema : Data) where
   abbrev parts : Bool → Parts S K R
   parts texts = parts_of h.resolver h.table h.matcher (h.words texts) options
@@ -48,12 +48,12 @@ module _ {S K R C M : Type 0} (h : Handed S K R C M) (options : Options) (schema
   abbrev pub HoldsCompiled : Entries (Program C M) → Type 0
   HoldsCompiled es = (name : Text) → IsTrue (is_some (at_pointer es name)) ↔ IsNameOfCompiled name
 
-  -- of each validator of the map and the key of the place that its name stands for
+  -- a fact about each validator of the map and the key of the place that has its name
   abbrev pub OfEach : Entries (Program C M) → (Key S → Program C M → Type 0) → Type 0
   OfEach es fact = (texts : Bool) (root : Key S) → IsRootKey (parts texts) schema root → (name : Text) (p : Program C M) → at_pointer es name ≡ Some p
       → (path : Place) × (c : IsCompiled (parts texts) root path) × (name ≡ name_of path) × fact c.key p
 
-  -- it means the plain meaning of this key, where no chain of references returns
+  -- it means the plain meaning of this key, if no chain of references returns
   abbrev pub EachMeansPlainly : Entries (Program C M) → Type 0
   EachMeansPlainly es = OfEach es (λ key p. MeansKey h.resolver h.table h.matcher h.words options key h.shape h.is_whole h.matching p)
 
@@ -69,7 +69,8 @@ module _ {S K R C M : Type 0} (h : Handed S K R C M) (options : Options) (schema
   abbrev pub EachsUnitsPoint : Entries (Program C M) → Type 0
   EachsUnitsPoint es = OfEach es (λ key p. UnitsPointFromKey h.resolver h.table h.matcher h.words options key h.shape h.matching p)
 
-  -- where each keyword of what this key reaches is monotone, its nodes accept an instance exactly where the largest set of targets and places does
+  -- if each keyword of what this key reaches is monotone, its nodes accept an instance exactly if
+  -- the largest set of targets and places does
   abbrev pub EachAcceptsGreatest : Entries (Program C M) → Type 0
   EachAcceptsGreatest es = OfEach es (λ key p. AcceptsAsKey h options key p)
 
@@ -77,7 +78,7 @@ module _ {S K R C M : Type 0} (h : Handed S K R C M) (options : Options) (schema
   abbrev pub EachHasSolver : Entries (Program C M) → Type 0
   EachHasSolver es = OfEach es (λ key p. HasSolver p)
 
-  -- its nodes correspond one to one to the keys that this key reaches, which are no more than the limit; its draft is the root's, and its matcher answers as the one that is handed in
+  -- its nodes correspond one to one to the keys that this key reaches, which are no more than the limit; its draft is the root's, and its matcher answers as the one of the parts
   abbrev pub EachIsCompiledFrom : Entries (Program C M) → Type 0
   EachIsCompiledFrom es = OfEach es (λ key p. (length p.nodes ≤ options.limit) × IsProgramFrom h.resolver h.table h.matcher options options.nested schema h.shape h.matching key p)
 
@@ -110,7 +111,7 @@ module _ {S K R C M : Type 0} (h : Handed S K R C M) (options : Options) (schema
   abbrev pub MapIsBuilt : MetaChecks → Type 0
   MapIsBuilt refuses = (texts : Bool) → MapBuilds refuses texts
 
-  -- why there is none: the root has no key, or its vocabularies are not declared, or a document is refused, or an object or boolean of the document reaches more keys than the limit, by itself; want of memory says nothing
+  -- why there is none: the root has no key, or its vocabularies are not declared, or a document is refused, or an object or boolean of the document reaches more keys than the limit, by itself; lack of memory says nothing
   pub data Refusal (refuses : MetaChecks) (texts : Bool) (e : BuildError) : Type 0 where
     no_root : RefusesKey (parts texts) schema e → Refusal refuses texts e
     not_declared : (root : Key S) → IsRootKey (parts texts) schema root → RefusesVocabularies (parts texts) root e → Refusal refuses texts e

@@ -1,6 +1,7 @@
--- Where the errors of a call point: each at a keyword that its evaluation path leads to, its schema path being the
--- target's location going on alike, and at a value inside the instance; or the call gives its one failure, where a match
--- stays unfinished. So point the errors in the units of an evaluation, each by its unit. (Core 2020-12, 12.3 and 12.4)
+-- Where the errors of a call point: each at a keyword that its evaluation path leads to, with a
+-- schema path that continues the target's location in the same way, and at a value inside the
+-- instance; or the call returns its one failure, if a match stays unfinished. The errors in the
+-- units of an evaluation point so too, each by its unit. (Core 2020-12, 12.3 and 12.4)
 use Rattle.std.specs.Prelude.{All, Bool, List, None, Option, Some, [], map, true, ℕ, ◌≡◌, ◌⊎◌}
 use Rattle.serde_json.specs.Data.{Data}
 use Rattle.theory_definitions.specs.Reports.{Unit_}
@@ -16,9 +17,10 @@ use Rattle.schema_reports.specs.declared.evaluation.EvaluationNode.{EvaluationNo
 use Rattle.schema_reports.specs.declared.reports.ValidationError.{ValidationError}
 use Rattle.schema_output.specs.ErrorUnits.{errors_unit}
 
--- of a call that makes so many runs at most
+-- of a call with this limit on runs
 module _ {S K R : Type 0} (w : Parts S K R) (root : Key S) (instance : Data) (v : Sense) (most : ℕ) where
-  -- each of a call's errors points so, or the call gives its one failure; the latter where it doesn't decide
+  -- each of a call's errors points so, or the call returns its one failure; the latter if it does
+  -- not decide
   abbrev pub EachPointsIn : Call → Bool → List ValidationError → Type 0
   EachPointsIn call texts es = Either (Decides v most call) (All (PointsAt w root instance) (map (error_of texts) es) ⊎ OneFailure v most call (map (error_of true) es)) (OneFailure v most call (map (error_of true) es))
 
@@ -35,7 +37,8 @@ module _ {S K R : Type 0} (w : Parts S K R) (root : Key S) (instance : Data) (v 
     pub made : u ≡ errors_unit (map (error_of texts) errors)
     pub point : EachPointsIn evaluate texts errors
 
-  -- where the first run meets an unfinished match, the units are those of errors that point so; where it meets none, each unit that has an error of its own points so
+  -- if the first run meets an unfinished match, the units are those of errors that point so; if it
+  -- meets none, each unit that has an error of its own points so
   pub record EvaluationPoints (texts : Bool) (u : EvaluationNode) : Type 0 where
     pub apart : ¬ (branch_at v evaluate [] ≡ None) → IsOfPointing texts (unit_of texts u)
     pub alone : branch_at v evaluate [] ≡ None → UnitsPoint w root instance (unit_of texts u)

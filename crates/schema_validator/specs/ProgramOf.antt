@@ -1,6 +1,8 @@
--- A validator that is compiled from a key: its nodes correspond one to one to the keys that this key reaches, found in the one
--- order that the schema and the limit on nested targets give, and its edges are guarded by that order; its draft is the root's,
--- and its matcher answers as the one that was handed in; its calls make as many runs, and take as many steps, at most as the options say. The key is the schema's root's, or that of a subschema by itself.
+-- A validator that is compiled from a key. Its nodes correspond one to one to the keys that this
+-- key reaches, found in the one order that the schema and the limit on nested targets determine,
+-- and its edges are guarded by that order. Its draft is the root's, its matcher answers as the one
+-- of the parts, and the limits of its calls are those of the options. The key is the schema's
+-- root's, or that of a subschema by itself.
 use Rattle.std.specs.Prelude.{◌≡◌, Ok, ℕ}
 use Rattle.serde_json.specs.Data.{Data}
 use Rattle.theory_definitions.specs.Matching.{Matcher}
@@ -24,7 +26,7 @@ module _ {S K C M : Type 0} (resolver : Resolver S) (table : Table K) (matcher :
     pub runs_are : p.runs ≡ options.runs
     pub work_is : p.work ≡ options.work
 
-  -- it is compiled from the root's key, for which no cause of refusal stands
+  -- it is compiled from the root's key, for which there is no cause of refusal
   pub record IsProgramOf (p : Program C M) : Type 0 where
     pub root : Key S
     pub is_root : IsRootKey (parts_of resolver table no_matcher no_keywords options) schema root

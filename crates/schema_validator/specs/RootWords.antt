@@ -1,4 +1,5 @@
--- What is said of a schema's root, by the resolver, the options and the schema of the code; and of the check of its documents.
+-- Facts about a schema's root, by the resolver, the options and the schema of the code; and about
+-- the check of its documents.
 use Rattle.std.specs.Prelude.{Ok, true, ◌≡◌}
 use Rattle.serde_json.specs.View.{view}
 use Rattle.serde_json.specs.declared.value.Value.{Value}
@@ -28,7 +29,7 @@ module _ {A P S : Type 0} (r : ResolverMembers A P S) (resolver : A) (options : 
   abbrev pub HasRootDraft : Draft → Type 0
   HasRootDraft draft = root_draft (root_parts (r.resolving resolver) options) (view schema) ≡ Ok (draft_of draft)
 
-  -- the base of the root, where it is read in this draft
+  -- the base of the root, if it is read in this draft
   abbrev pub root_base : Draft → Text
   root_base draft = base_of (root_parts (r.resolving resolver) options) (draft_of draft) (view schema)
 
@@ -36,12 +37,12 @@ module _ {A P S : Type 0} (r : ResolverMembers A P S) (resolver : A) (options : 
   abbrev pub RefusesRootKey : BuildError → Type 0
   RefusesRootKey e = RefusesKey (root_parts (r.resolving resolver) options) (view schema) e
 
--- the key where a document begins that is entered in this state at this place
+-- the key of the place where a document begins that is entered in this state
 abbrev pub key_begun : {A P S : Type 0} → ResolverMembers A P S → A → P → SchemaPlace → Draft → Key S
 key_begun r resolver state place draft = key_at (resolving_parts (r.resolving resolver)) (record { place = place_of place; state = r.point state }) (draft_of draft)
 
 module _ {P S : Type 0} (resolver : Resolver S) (refuses : MetaChecks) (options : Options) (root : SchemaKey P) where
-  -- where the check is on, each document of the schema of this key is accepted
+  -- if the check is on, each document of the schema of this key is accepted
   abbrev pub PassesIfChecked : Type 0
   PassesIfChecked = options.checks ≡ true → AcceptsSchema resolver refuses (draft_of root.draft) (place_of root.place)
 

@@ -1,5 +1,5 @@
--- The key of a schema's root, as options, schema and resolver give it; and why a schema is refused. (Core 2020-12, 4.3.5
--- and 9.1.1)
+-- The key of a schema's root, by the options, the schema and the resolver; and why a schema is
+-- refused. (Core 2020-12, 4.3.5 and 9.1.1)
 use Rattle.std.specs.Prelude.{List, None, Ok, Err, Some, false, length, string_bytes, ◌≡◌, ◌⊎◌, ◌≤◌, ℕ}
 use Rattle.serde_json.specs.Data.{Data}
 use Rattle.serde_json.specs.Written.{has_float}
@@ -17,12 +17,13 @@ use Rattle.schema_keys.specs.declared.error.BuildError.{BuildError}
 use Rattle.schema_keys.specs.declared.error.BuildError.TheVariants.{KeywordRefused, Lookup, MetaSchema, MissingRoot, NodeLimit, NotASchema, OutOfMemory, ReferenceNotText, UnsupportedVocabulary}
 use Rattle.schema_validator.specs.Handed.{Options, parts_of}
 
--- what depends on the resolver and the options alone
+-- the parts that depend on the resolver and the options alone
 abbrev pub root_parts : {S : Type 0} → Resolver S → Options → Parts S (Unit {0}) (Unit {0})
 root_parts resolver options = parts_of resolver no_table no_matcher no_keywords options
 
 module _ {S K R : Type 0} (w : Parts S K R) (schema : Data) where
-  -- the key where the document under the root's base begins, read in the root's draft; nothing is said of the value there
+  -- the key of the place where the document under the root's base begins, read in the root's draft;
+  -- the value there may be anything
   pub record IsRootKey (k : Key S) : Type 0 where
     pub draft : Draft
     pub entrance : Entrance S
@@ -37,7 +38,8 @@ module _ {S K R : Type 0} (w : Parts S K R) (schema : Data) where
     pub is_base : uri ≡ base_of w draft schema
     pub missing : w.resolver.root uri ≡ None
 
-  -- a schema that builds: its root has one key; no cause stands for what the key reaches, and that is no more than the limit
+  -- a schema that builds: its root has one key, there is no cause to refuse what the key reaches,
+  -- and that is within the limit
   pub record Builds (limit : ℕ) : Type 0 where
     pub root : Key S
     pub is_root : IsRootKey root
@@ -47,7 +49,8 @@ module _ {S K R : Type 0} (w : Parts S K R) (schema : Data) where
     pub reach : IsReach w root keys
     pub within : length keys ≤ limit
 
-  -- why a schema's root has no key; the text is the resolver's where the schema holds no fraction; want of memory says nothing
+  -- why a schema's root has no key; the text is the resolver's if the schema holds no fraction;
+  -- lack of memory says nothing
   abbrev pub RefusesKey : BuildError → Type 0
   RefusesKey (NotASchema location) = ⊥
   RefusesKey (ReferenceNotText location) = ⊥
@@ -59,7 +62,7 @@ module _ {S K R : Type 0} (w : Parts S K R) (schema : Data) where
   RefusesKey (NodeLimit n) = ⊥
   RefusesKey OutOfMemory = Unit {0}
 
-  -- why a schema is refused: its root has no key, or a cause stands for what the root's key reaches, or more keys than the
-  -- limit are reached
+  -- why a schema is refused: its root has no key, or there is a cause to refuse what the root's key
+  -- reaches, or that is more keys than the limit
   abbrev pub RefusesBuild : ℕ → BuildError → Type 0
   RefusesBuild limit error = RefusesKey error ⊎ ((root : Key S) × IsRootKey root × RefusesRoot w limit root error)

@@ -1,4 +1,4 @@
-//! Validators by the default options.
+//! Building validators by the default options.
 ghost use Rattle.std.specs.Prelude.{◌≡◌, IfOk, IfErr, OnOk};
 ghost use Rattle.serde_json.specs.View.{view};
 ghost use Rattle.schema_validator.specs.Building.{AcceptsAsBuilt, CanBeBuilt, HasUnitsAsBuilt, IsBuiltWith, MeansAsBuilt, NamesFirst};
@@ -19,21 +19,26 @@ use serde_json::Value;
 use std::alloc::Global;
 
 impl<K: Validate, M: Matcher> Validator<K, M> {
-    /// Returns the default options: schemas are checked, nothing else is set, no vocabulary is declared, 65,536 keys may be
-    /// reached, 8 targets of references are compiled one inside another, and a call makes 64 runs at most for unfinished matches.
-    /// Allocates nothing.
+    /// Returns the default options.
+    ///
+    /// Schemas are checked, no vocabulary is declared, and nothing else is set. At most 65,536 keys
+    /// may be reached, at most 8 targets of references are compiled one inside another, and a call
+    /// makes at most 64 runs for unfinished matches.
     pub fn options(alloc: Global) -> ValidationOptions
         ensures defaults { result ≡ default_options }
     {
         ValidationOptions::new(alloc)
     }
 
-    /// Builds a validator of a schema by the default options, as `ValidationOptions::build` does.
+    /// Builds a validator of a schema by the default options.
+    ///
+    /// It is the validator that `ValidationOptions::build` returns for them.
     ///
     /// # Errors
     ///
-    /// Fails if the schema, or one that it reaches, is refused, if the meta validators refuse it, if more keys are reached than the
-    /// limit, or out of memory. Of several causes the first is named, as by `ValidationOptions::build`.
+    /// The schema, or one that it reaches, is refused; the meta validators refuse it; more keys are
+    /// reached than the limit; or out of memory. If there are several causes, the error names the
+    /// first, as with `ValidationOptions::build`.
     pub fn new<S: Resolver, T: KeywordTable<K>, V: MetaValidators>(
         alloc: Global,
         schema: &Value,

@@ -18,13 +18,15 @@ use schema_traits::table::KeywordTable;
 use std::alloc::Global;
 use unfinished_search::MAX_ASSUMED_RUNS;
 
-/// Builds a validator from compiled nodes, the number of a key's node and the root's draft. Where the nodes are compiled from
-/// this key and no chain of references returns, the validator means the key's plain meaning and has its units. The matcher is
-/// cloned. Its calls make 64 runs at most for unfinished matches, take any number of steps, and it has no solver.
+/// Builds a validator from compiled nodes, the number of a key's node and the root's draft.
+///
+/// The validator means the key's plain meaning and has its units, if the nodes are compiled from
+/// this key and no chain of references returns. The matcher is cloned. The validator's calls make
+/// at most 64 runs for unfinished matches and take any number of steps, and it has no solver.
 ///
 /// # Errors
 ///
-/// Fails out of memory, for the matcher's clone.
+/// Out of memory, for the clone of the matcher.
 pub fn of_compiled<S: Resolver, T: KeywordTable<K>, K: Validate, M: Matcher>(
     table: &T,
     resolver: &S,
@@ -59,7 +61,7 @@ pub fn of_compiled<S: Resolver, T: KeywordTable<K>, K: Validate, M: Matcher>(
     )
 }
 
-/// Builds a validator as `of_compiled` does, whose calls have these limits, and which has this solver.
+/// Like `of_compiled`, but with these limits on its calls and this solver.
 pub(crate) fn of_compiled_within<S: Resolver, T: KeywordTable<K>, K: Validate, M: Matcher>(
     table: &T,
     resolver: &S,

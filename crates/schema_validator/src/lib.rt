@@ -1,4 +1,7 @@
-//! The options and the build of validators, the map of a document's validators, and the calls of validators.
+//! Building validators, and calling them.
+//!
+//! The crate has the options of a build, the build itself, the map of the validators of a document,
+//! and the calls of a validator.
 #![tactic(auto)]
 
 pub mod building;

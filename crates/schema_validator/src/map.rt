@@ -12,8 +12,10 @@ use std::collections::BTreeMap;
 use std::collections::btree_map::Keys;
 use std::marker::Model;
 
-/// Validators by pointers. Contracts see the list of the pointers, each with what its validator is made of. A look-up
-/// compares the pointer with about as many others as the logarithm of their number.
+/// A map from JSON Pointers to validators.
+///
+/// Contracts see it as the list of the pointers, each with the parts of its validator. A lookup
+/// makes about as many comparisons as the logarithm of the number of pointers.
 #[derive(Drop)]
 pub struct ValidatorMap<K: Validate, M> {
     entries: BTreeMap<String, Validator<K, M>>,
@@ -33,7 +35,7 @@ impl<K: Validate, M> Model for ValidatorMap<K, M> {
 }
 
 impl<K: Validate, M: Drop> ValidatorMap<K, M> {
-    /// Returns the map with no pointer. It allocates nothing.
+    /// Returns an empty map.
     pub(crate) fn new(alloc: Global) -> ValidatorMap<K, M>
         ensures empty { result ≡ [] }
     {
@@ -42,7 +44,7 @@ impl<K: Validate, M: Drop> ValidatorMap<K, M> {
         }
     }
 
-    /// Puts a validator at a pointer, in the place of the one that is there. Fails only out of memory, and then nothing has changed.
+    /// Inserts a validator at a pointer, and replaces the one that is there, if any.
     pub(crate) fn insert(
         &mut self,
         pointer: String,
@@ -55,21 +57,21 @@ impl<K: Validate, M: Drop> ValidatorMap<K, M> {
         Ok(())
     }
 
-    /// Returns the validator at a pointer, if there is one. It allocates nothing.
+    /// Returns the validator at a pointer, if there is one.
     pub fn get(&self, pointer: &str) -> Option<&Validator<K, M>>
         ensures found { option_copied result ≡ at_pointer self.now pointer.now }
     {
         self.entries.get(pointer)
     }
 
-    /// Returns `true` if there is a validator at the pointer. It allocates nothing.
+    /// Returns whether there is a validator at a pointer.
     pub fn contains_key(&self, pointer: &str) -> bool
         ensures found { result ≡ is_some (at_pointer self.now pointer.now) }
     {
         self.entries.contains_key(pointer)
     }
 
-    /// Returns the pointers, each once. It allocates nothing.
+    /// Returns the pointers, each once.
     pub fn keys(&self) -> Keys<'_, String, Validator<K, M>>
         ensures keys { map string_bytes result ≡ keys_of self.now }
         ensures once { EachOnce self.now }
@@ -77,14 +79,14 @@ impl<K: Validate, M: Drop> ValidatorMap<K, M> {
         self.entries.keys()
     }
 
-    /// Returns the number of pointers. It allocates nothing.
+    /// Returns the number of pointers.
     pub fn len(&self) -> usize
         ensures count { result ≡ length self.now }
     {
         self.entries.len()
     }
 
-    /// Returns `true` if there is no pointer. It allocates nothing.
+    /// Returns whether the map is empty.
     pub fn is_empty(&self) -> bool
         ensures empty { IsTrue result ↔ (self.now ≡ []) }
     {

@@ -15,16 +15,19 @@ pub mod build;
 pub mod map;
 pub mod root;
 
-/// How many keys a schema may reach, where no option says otherwise.
+/// The default limit on the keys that a schema may reach.
 const DEFAULT_NODE_LIMIT: usize = 65_536;
 
-/// How many targets of references are compiled one inside another, where no option and no call says otherwise.
+/// The default limit on the targets of references that are compiled one inside another.
 const DEFAULT_NESTED_LIMIT: usize = 8;
 
-/// How a schema is compiled, and how much a call of the validator may do: the draft and the base of its root, whether the meta
-/// validators check it, whether formats are checked, which custom vocabularies are declared, how many keys may be reached, how many
-/// targets of references are compiled one inside another, how many runs a call makes at most for unfinished matches, and how many steps
-/// it takes at most, where there is a limit. What is not set is left to schema and resolver.
+/// How to compile a schema, and how much a call of its validator may do.
+///
+/// For the build: the draft and the base of the root, whether the meta validators check the schema,
+/// whether formats are checked, which custom vocabularies are declared, how many keys may be
+/// reached, and how many targets of references are compiled one inside another. For a call: how
+/// many runs it makes at most for unfinished matches, and how many steps it takes at most, if there
+/// is a limit. The schema and the resolver decide whatever is not set.
 #[derive(Drop)]
 pub struct ValidationOptions {
     draft: Option<Draft>,
@@ -59,9 +62,11 @@ impl Model for ValidationOptions {
 }
 
 impl ValidationOptions {
-    /// Returns the default options: schemas are checked, nothing else is set, no vocabulary is declared, 65,536 keys may be
-    /// reached, 8 targets of references are compiled one inside another, and a call makes 64 runs at most for unfinished matches.
-    /// Allocates nothing.
+    /// Returns the default options.
+    ///
+    /// Schemas are checked, no vocabulary is declared, and nothing else is set. At most 65,536 keys
+    /// may be reached, at most 8 targets of references are compiled one inside another, and a call
+    /// makes at most 64 runs for unfinished matches.
     pub fn new(alloc: Global) -> ValidationOptions
         ensures defaults { result ≡ default_options }
     {
@@ -80,7 +85,7 @@ impl ValidationOptions {
         }
     }
 
-    /// Reads the root in this draft, whatever the schema says. Allocates nothing.
+    /// Sets the draft of the root, whatever the schema says.
     pub fn with_draft(self, draft: Draft) -> ValidationOptions
         ensures draft { result ≡ record self { draft = Some (draft_of draft) } }
     {
@@ -89,11 +94,11 @@ impl ValidationOptions {
         options
     }
 
-    /// Makes this URI the root's base, whatever identifier the schema has.
+    /// Sets the base of the root, whatever identifier the schema has.
     ///
     /// # Errors
     ///
-    /// Fails out of memory; the options are dropped.
+    /// Out of memory; the options are dropped.
     pub fn with_base_uri(self, alloc: Global, uri: &str) -> Result<ValidationOptions, OutOfMemory>
         ensures base { Yields result (record self { base = Some uri.now }) }
     {
@@ -102,7 +107,7 @@ impl ValidationOptions {
         Ok(options)
     }
 
-    /// Lets so many keys be reached; one more is refused. Allocates nothing.
+    /// Sets how many keys may be reached; a schema that reaches one more is refused.
     pub fn with_node_limit(self, limit: usize) -> ValidationOptions
         ensures limit { result ≡ record self { limit = limit } }
     {
@@ -111,11 +116,14 @@ impl ValidationOptions {
         options
     }
 
-    /// Lets a call of the validator make so many runs for unfinished matches at most, the first one among them. Where matches stay
-    /// unfinished that a run meets, it makes further ones; with k such matches it decides where `limit` is 2 ^ (k + 1) - 1 or more.
-    /// Past the limit `is_valid` answers no, and the other calls give the failure. Not counted is the verdict that `validate` and
-    /// `iter_errors` ask first where the matcher says that it finishes every match: there that is one run more, or a solver's.
-    /// Allocates nothing.
+    /// Sets how many runs a call makes at most for unfinished matches.
+    ///
+    /// The first run counts as one. A call makes further runs if a run meets matches that stay
+    /// unfinished. With k such matches the call decides if `limit` is 2 ^ (k + 1) - 1 or more. Past
+    /// the limit `is_valid` returns `false`, and the other calls return the failure.
+    ///
+    /// If the matcher says that it finishes every match, `validate` and `iter_errors` first look
+    /// for the verdict. That takes one more run, or a solver's, and it does not count.
     pub fn with_run_limit(self, limit: u32) -> ValidationOptions
         requires some { 1 ≤ limit }
         ensures runs { result ≡ record self { runs = limit } }
@@ -125,10 +133,12 @@ impl ValidationOptions {
         options
     }
 
-    /// Lets a call of the validator take so many steps at most: each time that a node is asked at a place counts one, in all runs of the
-    /// call, and so does each pair that a solver begins. A call that would take one more stops: `is_valid` answers no, and the other
-    /// calls give one failure, with the text `The limit of N steps was reached`. Where this is not set there is no limit. Allocates
-    /// nothing.
+    /// Sets how many steps a call takes at most.
+    ///
+    /// Each evaluation of a node at a place counts as one step, in all runs of the call, and so
+    /// does each pair that a solver begins. A call that would take one more step stops: `is_valid`
+    /// returns `false`, and the other calls return one failure, with the text `The limit of N steps
+    /// was reached`. By default there is no limit.
     pub fn with_work_limit(self, limit: u64) -> ValidationOptions
         ensures work { result ≡ record self { work = Some limit } }
     {
@@ -137,9 +147,11 @@ impl ValidationOptions {
         options
     }
 
-    /// Lets so many targets of references be compiled one inside another. Where no chain of references returns, this changes no
-    /// answer, a failure's site aside, nor does it change a verdict of a call that decides, where each keyword is monotone. It decides
-    /// how much stack the build takes, and which edges of a cycle of references are guarded. Allocates nothing.
+    /// Sets how many targets of references are compiled one inside another.
+    ///
+    /// The limit decides how much stack the build takes, and which edges of a reference cycle are
+    /// guarded. If no chain of references returns, it changes no answer except the site of a
+    /// failure. If each keyword is monotone, it changes no verdict of a call that decides.
     pub fn with_nested_limit(self, limit: usize) -> ValidationOptions
         ensures nested { result ≡ record self { nested = limit } }
     {
@@ -148,7 +160,7 @@ impl ValidationOptions {
         options
     }
 
-    /// Has the meta validators check the schema, or does not. Where this is not set, they do. Allocates nothing.
+    /// Sets whether the meta validators check the schema. By default they do.
     pub fn should_validate_schema(self, checked: bool) -> ValidationOptions
         ensures checks { result ≡ record self { checks = checked } }
     {
@@ -157,7 +169,7 @@ impl ValidationOptions {
         options
     }
 
-    /// Checks formats, or does not, whatever draft and vocabularies say. Allocates nothing.
+    /// Sets whether formats are checked, whatever the draft and the vocabularies say.
     pub fn should_validate_formats(self, checked: bool) -> ValidationOptions
         ensures formats { result ≡ record self { formats = Some checked } }
     {
@@ -166,11 +178,13 @@ impl ValidationOptions {
         options
     }
 
-    /// Declares the custom vocabulary of this URI, after those that already are. A schema may then require it.
+    /// Declares the custom vocabulary with this URI, after those already declared.
+    ///
+    /// A schema may then require it.
     ///
     /// # Errors
     ///
-    /// Fails out of memory; the options are dropped.
+    /// Out of memory; the options are dropped.
     pub fn with_vocabulary(self, alloc: Global, uri: &str) -> Result<ValidationOptions, OutOfMemory>
         ensures declared { Yields result (record self { declared = self.declared ++ uri.now ∷ [] }) }
     {

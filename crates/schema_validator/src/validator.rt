@@ -1,4 +1,4 @@
-//! A validator: what it answers of instances.
+//! Validators: compiled schemas that validate instances.
 ghost use Rattle.std.specs.Prelude.{◌≡◌, ◌↔◌, ◌<◌, ◌≤◌, true, None, IfOk, OnErr, length, OnOk};
 ghost use Rattle.serde_json.specs.View.{view};
 ghost use Rattle.theory_definitions.specs.Cover.{evaluate, is_valid, iter_errors, validate};
@@ -44,7 +44,9 @@ use std::alloc::Global;
 use std::marker::Model;
 use unfinished_search::MAX_ASSUMED_RUNS;
 
-/// A compiled schema. It validates any number of instances, and no call changes it.
+/// A compiled schema.
+///
+/// It validates any number of instances, and no call changes it.
 #[derive(Drop)]
 pub struct Validator<K: Validate, M> {
     schema: CompiledSchema<K, M>,
@@ -62,7 +64,6 @@ impl<K: Validate, M> Model for Validator<K, M> {
     ghost view = { λ v. v.schema };
 }
 
-// A refusal with the error, if there is one.
 fn unless_refused<'i>(error: Option<ValidationError<'i>>) -> Result<(), ValidationError<'i>>
     ensures refusal { refusal_of result ≡ error.entry }
 {
@@ -73,8 +74,11 @@ fn unless_refused<'i>(error: Option<ValidationError<'i>>) -> Result<(), Validati
 }
 
 impl<K: Validate, M: Matcher> Validator<K, M> {
-    /// Makes a validator of compiled nodes, the number of the root's node, the root's draft, and the matcher. Its calls make 64
-    /// runs at most for unfinished matches, take any number of steps, and it has no solver. Allocates nothing.
+    /// Returns a validator of compiled nodes.
+    ///
+    /// The arguments are the nodes, the number of the root's node, the root's draft, and the
+    /// matcher. The validator's calls make at most 64 runs for unfinished matches and take any
+    /// number of steps, and it has no solver.
     pub fn of_nodes(nodes: Nodes<K>, root: SchemaNode, draft: Draft, matcher: M) -> Validator<K, M>
         requires inside { root.0 < length nodes }
         ensures made { result ≡ program_with nodes root.0 (draft_of draft) matcher default_runs None None }
@@ -92,7 +96,7 @@ impl<K: Validate, M: Matcher> Validator<K, M> {
         )
     }
 
-    // Makes a validator of compiled nodes, whose calls have these limits, and which has this solver.
+    // Returns a validator of compiled nodes, with these limits on its calls and this solver.
     pub(crate) fn of_nodes_within(
         nodes: Nodes<K>,
         root: SchemaNode,
@@ -110,14 +114,16 @@ impl<K: Validate, M: Matcher> Validator<K, M> {
         }
     }
 
-    /// Returns how many runs a call makes at most for unfinished matches, the first one among them.
+    /// Returns how many runs a call makes at most for unfinished matches.
+    ///
+    /// The first run counts as one.
     pub fn run_limit(&self) -> u32
         ensures runs { result ≡ self.now.runs }
     {
         self.schema.run_limit()
     }
 
-    /// Returns how many steps a call takes at most, where there is a limit.
+    /// Returns how many steps a call takes at most, if there is a limit.
     pub fn work_limit(&self) -> Option<u64>
         ensures work { result ≡ self.now.work }
     {
@@ -145,10 +151,14 @@ impl<K: Validate, M: Matcher> Validator<K, M> {
         self.schema.nodes()
     }
 
-    /// Returns whether each keyword of each node says that it is monotone: that a yes more among the answers to its questions turns
-    /// no yes of it to a no. References count as monotone. Where it returns `true`, calls that decide answer by the greatest solution
-    /// of the nodes: the largest set of numbers and places, each of which accepts where exactly those of the set do; also where chains
-    /// of references return. Allocates nothing.
+    /// Returns whether each keyword of each node says that it is monotone.
+    ///
+    /// A keyword is monotone if one more "valid" among the answers to its questions never turns its
+    /// own "valid" into "invalid". References count as monotone.
+    ///
+    /// If it returns `true`, calls that decide answer by the greatest solution of the nodes, even
+    /// if chains of references return. That is the largest set of pairs of a number and a place in
+    /// which each pair accepts exactly if those of the set do.
     pub fn is_monotone(&self) -> bool
         ensures exactly { (result ≡ true) ↔ AllSayMonotone K.Validate self.now }
         ensures monotone { result ≡ true → AllAreMonotone K.Validate self.now }
@@ -164,13 +174,17 @@ impl<K: Validate, M: Matcher> Validator<K, M> {
         self.schema.node_count()
     }
 
-    /// Returns what `is_valid` does, but takes no more steps than `work` allows, and counts them there (`with_work_limit`): one at least
-    /// for each run that it makes for unfinished matches after the first run. It is not stopped where the matcher says that it finishes
-    /// every match, each keyword says that it is monotone, and there is a solver for which so many pairs are enough (`solve_within`).
+    /// Like `is_valid`, but spends at most `work` steps, and deducts them from it.
+    ///
+    /// `ValidationOptions::with_work_limit` says what a step is. Each run that it makes for
+    /// unfinished matches after the first takes at least one step. It is not stopped if the matcher
+    /// says that it finishes every match, each keyword says that it is monotone, and there is a
+    /// solver for which that many pairs are enough (`solve_within`).
     ///
     /// # Errors
     ///
-    /// Fails out of memory, and where one more step is to be taken: then `work` says that it is stopped, and allows no more.
+    /// Out of memory; or the call needs one more step. In the second case `work` says that it is
+    /// stopped, and allows no more.
     pub fn is_valid_within(
         &self,
         alloc: Global,
@@ -191,19 +205,26 @@ impl<K: Validate, M: Matcher> Validator<K, M> {
         Ok(answer?)
     }
 
-    /// Returns whether the instance is valid, as a solver finds it, with the context in which it found that; `None` where the validator
-    /// has no solver, and where the solver gave up. That it never does where each keyword says that it is monotone: it gives up where
-    /// another keyword is answered a yes that leans on a pair in progress or assumed. The matcher has to finish every match. The verdict
-    /// rests on the context: each verdict that this holds is what the nodes say of this instance, and where each keyword is monotone, it
-    /// holds nothing but what is so; with g numbers of nodes that a guarded edge leads to or that are not followed, and p places of the
-    /// instance, no more than g * p * g pairs of them were begun in it, reference cycles included (`SolverContext::begun`). Where the
-    /// matcher says that it finishes every match, `is_valid`, `validate` and `iter_errors` ask this first. Where each keyword is monotone,
-    /// it answers `true` exactly if the greatest solution of the nodes accepts. It counts nothing against the validator's limit, and begins
-    /// as many pairs as it needs.
+    /// Returns the verdict that the solver finds, with the context in which it found it.
+    ///
+    /// It returns `None` if the validator has no solver, or if the solver gives up. The solver
+    /// gives up if a keyword that does not say that it is monotone gets a provisional "valid", one
+    /// that depends on a pair in progress or assumed. So it never gives up if each keyword says
+    /// that it is monotone. The matcher has to finish every match. If it says that it does,
+    /// `is_valid`, `validate` and `iter_errors` use the solver first.
+    ///
+    /// The verdict rests on the context: each verdict in it is what the nodes say of this instance.
+    /// If each keyword is monotone, everything in it is true, and the verdict is `true` exactly if
+    /// the greatest solution of the nodes accepts.
+    ///
+    /// Let g be the number of nodes that a guarded edge leads to or that are not inlined, and p the
+    /// number of places of the instance. The context began at most g * p * g pairs of them, even
+    /// with reference cycles (`SolverContext::begun`). The call begins as many pairs as it needs,
+    /// and they do not count against the validator's limit.
     ///
     /// # Errors
     ///
-    /// Fails out of memory.
+    /// Out of memory.
     pub fn solve<'i>(
         &self,
         alloc: Global,
@@ -221,13 +242,16 @@ impl<K: Validate, M: Matcher> Validator<K, M> {
         self.solve_within(alloc, instance, &mut work)
     }
 
-    /// Returns what `solve` does, but begins no more pairs than `work` allows, and counts there those that it begins. Where it is
-    /// stopped, one pair more than `work` allowed is within the bound g * p * g on what it begins. So where `work` allows that many or
-    /// more, it is not stopped; and where each keyword says that it is monotone, it then finds the verdict, if memory is enough.
+    /// Like `solve`, but begins at most `work` pairs, and deducts them from it.
+    ///
+    /// If the call is stopped, one pair more than `work` allowed is within the bound g * p * g of
+    /// `solve`. So if `work` allows that many or more, the call is not stopped. If each keyword
+    /// also says that it is monotone, the call then finds the verdict, unless it is out of memory.
     ///
     /// # Errors
     ///
-    /// Fails out of memory, and where one more pair is to be begun: then `work` says that it is stopped.
+    /// Out of memory; or the call needs to begin one more pair. In the second case `work` says that
+    /// it is stopped.
     pub fn solve_within<'i>(
         &self,
         alloc: Global,
@@ -251,12 +275,14 @@ impl<K: Validate, M: Matcher> Validator<K, M> {
         self.schema.solved(alloc, true, instance, work)
     }
 
-    /// Returns what `validate` does, but takes no more steps than `work` allows, and counts them there: one at least for each run that it
-    /// makes for unfinished matches after the first run.
+    /// Like `validate`, but spends at most `work` steps, and deducts them from it.
+    ///
+    /// Each run that it makes for unfinished matches after the first takes at least one step.
     ///
     /// # Errors
     ///
-    /// Fails out of memory, and where one more step is to be taken: then `work` says that it is stopped, and allows no more.
+    /// Out of memory; or the call needs one more step. In the second case `work` says that it is
+    /// stopped, and allows no more.
     pub fn validate_within<'i>(
         &self,
         alloc: Global,
@@ -277,12 +303,14 @@ impl<K: Validate, M: Matcher> Validator<K, M> {
         Ok(unless_refused(answer?))
     }
 
-    /// Returns what `iter_errors` does, but takes no more steps than `work` allows, and counts them there: one at least for each run that
-    /// it makes for unfinished matches after the first run.
+    /// Like `iter_errors`, but spends at most `work` steps, and deducts them from it.
+    ///
+    /// Each run that it makes for unfinished matches after the first takes at least one step.
     ///
     /// # Errors
     ///
-    /// Fails out of memory, and where one more step is to be taken: then `work` says that it is stopped, and allows no more.
+    /// Out of memory; or the call needs one more step. In the second case `work` says that it is
+    /// stopped, and allows no more.
     pub fn iter_errors_within<'i>(
         &self,
         alloc: Global,
@@ -303,12 +331,14 @@ impl<K: Validate, M: Matcher> Validator<K, M> {
         Ok(ErrorIterator::new(answer?))
     }
 
-    /// Returns what `evaluate` does, but takes no more steps than `work` allows, and counts them there: one at least for each run that it
-    /// makes for unfinished matches after the first run.
+    /// Like `evaluate`, but spends at most `work` steps, and deducts them from it.
+    ///
+    /// Each run that it makes for unfinished matches after the first takes at least one step.
     ///
     /// # Errors
     ///
-    /// Fails out of memory, and where one more step is to be taken: then `work` says that it is stopped, and allows no more.
+    /// Out of memory; or the call needs one more step. In the second case `work` says that it is
+    /// stopped, and allows no more.
     pub fn evaluate_within(
         &self,
         alloc: Global,

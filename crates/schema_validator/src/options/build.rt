@@ -26,22 +26,28 @@ use serde_json::Value;
 use std::alloc::Global;
 
 impl ValidationOptions {
-    /// Builds a validator of a schema. The resolver has to have the schema as the document under the root's base: that is what is
-    /// compiled, and what the contract speaks of. Where no chain of references returns, the validator means the plain meaning of
-    /// schema and parts, and has its units. Returns or none, each error that it gives points at a keyword of the schema and at a
-    /// value inside the instance, and so does each unit that has an error. Where each keyword of what the root reaches is
-    /// monotone, the nodes accept exactly where the greatest solution does, the largest set of targets and places each of which
-    /// accepts where exactly those of the set do; so does each call that decides. The validator has a solver, which does not give up where
-    /// each keyword of its nodes says that it is monotone (`Validator::solve`). As many targets of references are compiled one inside
-    /// another as the options say, and for unfinished matches the validator's calls make as many runs at most as they say
-    /// (`with_run_limit`). Unless the options say otherwise, the meta validators check the schema before it is compiled.
+    /// Builds a validator of a schema.
+    ///
+    /// The resolver has to have the schema as the document under the root's base: that document is
+    /// compiled, and the contract speaks of it. Unless the options say otherwise, the meta
+    /// validators check the schema before it is compiled.
+    ///
+    /// If no chain of references returns, the validator means the plain meaning of schema and
+    /// parts, and has its units. In any case each error that its nodes produce points at a keyword
+    /// of the schema and at a value inside the instance, and so does each unit that has an error.
+    ///
+    /// If each keyword of what the root reaches is monotone, the nodes accept exactly if the
+    /// greatest solution does, and so does each call that decides. The greatest solution is the
+    /// largest set of pairs of a target and a place in which each pair accepts exactly if those of
+    /// the set do. The validator has a solver, which does not give up if each keyword of its nodes
+    /// says that it is monotone (`Validator::solve`).
     ///
     /// # Errors
     ///
-    /// Fails if the schema's root, or a schema that it reaches, is refused, if more keys are reached than the limit, or out of
-    /// memory. The error names a cause of that refusal. Where the schema is checked, fails also with the error of a document of
-    /// it that the meta validators refuse. Of several causes the first is named: the draft, the base, the first document that is
-    /// refused, the first vocabulary of the root that is not declared, and then what is compiled.
+    /// The root, or a schema that it reaches, is refused; the meta validators refuse a document of
+    /// the schema; more keys are reached than the limit; or out of memory. The error names a cause.
+    /// If there are several, it names the first of these: the draft, the base, the first refused
+    /// document, the first vocabulary of the root that is not declared, and then what is compiled.
     pub fn build<S: Resolver, T: KeywordTable<K>, K: Validate, M: Matcher, V: MetaValidators>(
         &self,
         alloc: Global,
@@ -83,14 +89,15 @@ impl ValidationOptions {
         )
     }
 
-    /// Builds a validator of a schema as `build` does, but with at most `nested` targets of references compiled one inside
-    /// another. Where no chain of references returns, this limit changes no answer, a failure's site aside, nor does it change a
-    /// verdict of a call that decides, where each keyword is monotone. It decides how much stack the build takes, and which edges
-    /// of a cycle of references are guarded.
+    /// Like `build`, but with this limit on targets of references compiled one inside another.
+    ///
+    /// The limit decides how much stack the build takes, and which edges of a reference cycle are
+    /// guarded. If no chain of references returns, it changes no answer except the site of a
+    /// failure. If each keyword is monotone, it changes no verdict of a call that decides.
     ///
     /// # Errors
     ///
-    /// Fails where `build` fails: the limit decides nothing of that.
+    /// As for `build`: the limit decides nothing of that.
     pub fn build_nested<
         S: Resolver,
         T: KeywordTable<K>,
@@ -153,7 +160,7 @@ impl ValidationOptions {
         Ok(validator)
     }
 
-    // Has the meta validators check the schema of a root's key, where the options ask for it.
+    // Has the meta validators check the schema, if the options ask for it.
     fn check<S: Resolver, V: MetaValidators>(
         &self,
         alloc: Global,

@@ -34,16 +34,21 @@ use serde_json::Value;
 use std::alloc::Global;
 
 impl ValidationOptions {
-    /// Builds a validator for each object and each boolean of the schema's document that compiles by itself, whatever stands
-    /// there for; it is found under `#` followed by the JSON Pointer of its place. The root is compiled as by `build`, any other
-    /// as a subschema of the root, at the empty location. What does not compile is left out, the root too. Each validator has
-    /// the root's draft. The meta validators check the schema whatever the options say. It takes a compilation for each entry.
+    /// Builds a validator for each schema of a document that compiles by itself.
+    ///
+    /// These are the objects and booleans of the document, whatever their role in it. The map has
+    /// the validator of a place under `#` followed by the JSON Pointer of the place. The root is
+    /// compiled as by `build`, any other schema as a subschema of the root, at the empty location.
+    /// A schema that does not compile is left out, even the root. Each validator has the root's
+    /// draft. The meta validators check the schema whatever the options say. Each entry takes a
+    /// compilation of its own.
     ///
     /// # Errors
     ///
-    /// Fails if the root's draft or base is refused, if a meta validator refuses the schema, if the root requires a custom
-    /// vocabulary that is not declared, if one entry reaches more keys than the limit, or out of memory. Then there is no map. Of
-    /// several causes the first in this order is named, of documents and vocabularies the first that is refused.
+    /// The draft or the base of the root is refused; a meta validator refuses the schema; the root
+    /// requires a custom vocabulary that is not declared; an entry reaches more keys than the
+    /// limit; or out of memory. Then there is no map. If there are several causes, the error names
+    /// the first in this order, and the first refused document or vocabulary.
     pub fn build_map<S: Resolver, T: KeywordTable<K>, K: Validate, M: Matcher, V: MetaValidators>(
         &self,
         alloc: Global,
@@ -92,7 +97,8 @@ impl ValidationOptions {
     }
 }
 
-/// What the entries of a map are built from: the memory, the schema, the options, the parts, and the key of the root.
+/// The input of a map's build: the allocator, the schema, the options, the parts, and the root's
+/// key.
 #[derive_where(Clone, Copy)]
 struct MapBuilding<'p, S: Resolver, T, M> {
     alloc: Global,
@@ -105,7 +111,7 @@ struct MapBuilding<'p, S: Resolver, T, M> {
 }
 
 impl<'p, S: Resolver, T, M: Matcher> MapBuilding<'p, S, T, M> {
-    /// The map of the document, once the meta validators accept the schema and the root's vocabularies are declared.
+    /// Returns the map, once the schema is accepted and the root's vocabularies are declared.
     fn checked_map<K: Validate, V: MetaValidators>(
         &self,
         metas: &V,
@@ -141,7 +147,7 @@ impl<'p, S: Resolver, T, M: Matcher> MapBuilding<'p, S, T, M> {
         }
     }
 
-    /// A copy of the root's key.
+    /// Returns a copy of the root's key.
     fn root_again(&self) -> Result<SchemaKey<S::State>, OutOfMemory>
         ensures key { Shows (key_of S.point) result (root_held S.Resolver self.now) }
         ensures draft { IfOk result (λ k. k.draft ≡ self.now.root.now.draft) }
@@ -157,7 +163,7 @@ impl<'p, S: Resolver, T, M: Matcher> MapBuilding<'p, S, T, M> {
         })
     }
 
-    /// The key of the schema at a path below the root: the root's own, or that of a subschema by itself.
+    /// Returns the key of the schema at a path below the root: the root's own, or a subschema's.
     fn key_at(&self, path: &SchemaPath) -> Result<SchemaKey<S::State>, BuildError>
         ensures key { IfOk result (λ k. key_below S.Resolver self.now path.now ≡ Some (key_of S.point k)) }
         ensures refused { IfErr result (RefusesKeyAlone (key_below S.Resolver self.now path.now)) }
@@ -175,7 +181,7 @@ impl<'p, S: Resolver, T, M: Matcher> MapBuilding<'p, S, T, M> {
         context.subschema_alone(path)
     }
 
-    /// The validator that is compiled from a key, in the root's draft.
+    /// Returns the validator compiled from a key, in the root's draft.
     fn compiled<K: Validate>(&self, key: SchemaKey<S::State>) -> Result<Validator<K, M>, BuildError>
     where
         T: KeywordTable<K>,
@@ -213,7 +219,7 @@ impl<'p, S: Resolver, T, M: Matcher> MapBuilding<'p, S, T, M> {
         Ok(validator)
     }
 
-    /// The validator of the schema at a path below the root.
+    /// Returns the validator of the schema at a path below the root.
     fn entry<K: Validate>(&self, path: &SchemaPath) -> Result<Validator<K, M>, BuildError>
     where
         T: KeywordTable<K>,
@@ -224,7 +230,7 @@ impl<'p, S: Resolver, T, M: Matcher> MapBuilding<'p, S, T, M> {
         self.compiled(key)
     }
 
-    /// The validator at a path; none where what stands there does not compile.
+    /// Returns the validator at a path, or none if that schema does not compile.
     fn entry_if_compiled<K: Validate>(
         &self,
         path: &SchemaPath,
@@ -244,7 +250,7 @@ impl<'p, S: Resolver, T, M: Matcher> MapBuilding<'p, S, T, M> {
         }
     }
 
-    /// What the place at a path is called: `#` and its pointer.
+    /// Returns the name of a place: `#` and its pointer.
     fn name_of(&self, path: &SchemaPath) -> Result<String, OutOfMemory>
         ensures name { Shows string_bytes result (name_of path.now) }
     {
@@ -254,7 +260,7 @@ impl<'p, S: Resolver, T, M: Matcher> MapBuilding<'p, S, T, M> {
         Ok(name)
     }
 
-    /// Puts the validator at a path into the map, or leaves out what does not compile.
+    /// Adds the validator at a path to the map, unless that schema does not compile.
     fn put<K: Validate>(
         &self,
         map: &mut ValidatorMap<K, M>,
@@ -272,7 +278,7 @@ impl<'p, S: Resolver, T, M: Matcher> MapBuilding<'p, S, T, M> {
         Ok(())
     }
 
-    /// The map of the schemas at these paths.
+    /// Returns the map of the schemas at these paths.
     fn map_of<K: Validate>(&self, paths: &[SchemaPath]) -> Result<ValidatorMap<K, M>, BuildError>
     where
         T: KeywordTable<K>,

@@ -14,13 +14,17 @@ use schema_traits::schema_place::SchemaPlace;
 use serde_json::Value;
 use std::alloc::Global;
 
-/// Returns the key of a schema's root: at the place where the resolver's document under the root's base begins, in the
-/// root's draft, at the empty location. The draft is the option's, or else the one that the schema asks for; the base is the
-/// option's, or else the schema's identifier, or else `json-schema:///`.
+/// Returns the key of a schema's root.
+///
+/// It is at the place where the resolver's document under the root's base begins, in the root's
+/// draft, at the empty location. The draft is the one of the options, or else the one that the
+/// schema asks for. The base is the one of the options, or else the schema's identifier, or else
+/// `json-schema:///`.
 ///
 /// # Errors
 ///
-/// Fails if the resolver refuses the draft that the schema asks for or has no document under the base, or out of memory.
+/// The resolver refuses the draft that the schema asks for, or has no document under the base; or
+/// out of memory.
 pub fn root_key<R: Resolver>(
     alloc: Global,
     resolver: &R,
@@ -40,7 +44,7 @@ pub fn root_key<R: Resolver>(
 }
 
 impl ValidationOptions {
-    // The draft of a schema's root.
+    // Returns the draft of a schema's root.
     fn root_draft<R: Resolver>(
         &self,
         alloc: Global,
@@ -56,7 +60,7 @@ impl ValidationOptions {
         }
     }
 
-    // The base of a schema's root.
+    // Returns the base of a schema's root.
     fn base_of<'v, R: Resolver>(&'v self, resolver: &R, draft: Draft, schema: &'v Value) -> &'v str
         ensures base { result.now ≡ root_base R.Resolver resolver.now self.now schema.now draft }
     {
@@ -70,7 +74,7 @@ impl ValidationOptions {
     }
 }
 
-// The key where a document begins.
+// Returns the key of the place where a document begins.
 fn key_at<R: Resolver>(
     alloc: Global,
     resolver: &R,

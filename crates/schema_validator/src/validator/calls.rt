@@ -1,4 +1,4 @@
-//! The calls of a validator, within its limit of steps.
+//! The calls of a validator, within its limit on steps.
 ghost use Rattle.std.specs.Prelude.{◌≡◌, IfOk, IfSome, Some, true, OnSome};
 ghost use Rattle.serde_json.specs.View.{view};
 ghost use Rattle.schema_compiled.specs.Asked.{DecidesFromSomeDepth, ErrorsFromSomeDepth, FirstFromSomeDepth};
@@ -23,7 +23,7 @@ use serde_json::Value;
 use std::alloc::Global;
 
 impl<K: Validate, M: Matcher> Validator<K, M> {
-    // The validator's limit of steps, where a call has stopped at one.
+    // Returns the validator's limit on steps, if a call has stopped at one.
     fn stopped_at(&self, work: &Work) -> Option<u64>
         ensures limit { IfSome result (λ limit. self.now.work ≡ Some limit) }
         ensures stopped { OnSome result (work.now.stopped ≡ true) }
@@ -34,16 +34,21 @@ impl<K: Validate, M: Matcher> Validator<K, M> {
         self.work_limit()
     }
 
-    /// Returns whether the instance is valid. Where the matcher leaves matches unfinished, returns whether the instance is valid
-    /// under every outcome of them, and `false` if that takes more runs than a call makes. Where each keyword is monotone, and it
-    /// takes no more runs, returns `true` exactly if the greatest solution of the nodes accepts, also where references return.
-    /// Where a limit is set on its steps (`with_work_limit`), and it would take one more, it returns `false`. It takes no more where the
-    /// matcher says that it finishes every match, each keyword says that it is monotone, and there is a solver for which a limit on
-    /// pairs as large is enough (`solve_within`): a `false` is then a verdict.
+    /// Returns whether the instance is valid.
+    ///
+    /// If the matcher leaves matches unfinished, returns whether the instance is valid under every
+    /// outcome of them, and `false` if finding out takes more runs than the limit. If each keyword
+    /// is monotone and the runs are within the limit, returns `true` exactly if the greatest
+    /// solution of the nodes accepts, even if chains of references return.
+    ///
+    /// With a limit on steps (`with_work_limit`), returns `false` if the call needs one more. It
+    /// does not if the matcher says that it finishes every match, each keyword says that it is
+    /// monotone, and there is a solver for which that many pairs are enough (`solve_within`). A
+    /// `false` is then a verdict.
     ///
     /// # Errors
     ///
-    /// Fails out of memory.
+    /// Out of memory.
     pub fn is_valid(&self, alloc: Global, instance: &Value) -> Result<bool, OutOfMemory>
         ensures depth { IfOk result (IsSoOrNo K.Validate M.Matcher.own self.now instance.now DecidesFromSomeDepth) }
         ensures senses { IfOk result (IsSoOrNo K.Validate M.Matcher.own self.now instance.now DecidesInEverySense) }
@@ -61,17 +66,22 @@ impl<K: Validate, M: Matcher> Validator<K, M> {
         }
     }
 
-    /// Returns the first error as an inner `Err`, and an inner `Ok` if the instance is valid. Where the matcher leaves matches
-    /// unfinished, the error is the first that all outcomes of them share. It tells of such a match instead if some outcome
-    /// refuses and they share no error, or if that takes more runs than a call makes. Any other error is one that the nodes give
-    /// under some outcome, so it points at keyword and value as the build promises of these. Where each keyword is monotone, and it
-    /// takes no more runs, there is no error exactly if the greatest solution of the nodes accepts. Where the matcher says that it
-    /// finishes every match, the verdict is asked first, and the error only where the verdict is no. Where a limit is set on the steps of
-    /// a call (`with_work_limit`), and it would take one more, the error tells of the limit.
+    /// Returns the first error as an inner `Err`, or an inner `Ok` if the instance is valid.
+    ///
+    /// If the matcher leaves matches unfinished, the error is the first that all outcomes of them
+    /// share. It reports such a match instead if some outcome refuses and they share no error, or
+    /// if finding out takes more runs than the limit. Any other error is one that the nodes produce
+    /// under some outcome, so it points at a keyword and a value as the build promises. If each
+    /// keyword is monotone and the runs are within the limit, there is no error exactly if the
+    /// greatest solution of the nodes accepts.
+    ///
+    /// If the matcher says that it finishes every match, the call looks for the verdict first, and
+    /// for the error only if the instance is invalid. With a limit on steps (`with_work_limit`),
+    /// the error reports the limit if the call needs one more.
     ///
     /// # Errors
     ///
-    /// Fails out of memory.
+    /// Out of memory.
     pub fn validate<'i>(
         &self,
         alloc: Global,
@@ -93,17 +103,22 @@ impl<K: Validate, M: Matcher> Validator<K, M> {
         }
     }
 
-    /// Returns all errors in order, and none if the instance is valid. Where the matcher leaves matches unfinished, these are the
-    /// errors that all outcomes of them share. There is one error, which tells of such a match, if some outcome refuses and
-    /// they share no error, or if that takes more runs than a call makes. Any other error is one that the nodes give under some
-    /// outcome, so it points at keyword and value as the build promises of these. Where each keyword is monotone, and it takes no
-    /// more runs, there is no error exactly if the greatest solution of the nodes accepts. Where the matcher says that it finishes
-    /// every match, the verdict is asked first, and the errors only where the verdict is no. Where a limit is set on the steps of
-    /// a call (`with_work_limit`), and it would take one more, there is one error, which tells of the limit.
+    /// Returns all errors in order, or none if the instance is valid.
+    ///
+    /// If the matcher leaves matches unfinished, these are the errors that all outcomes of them
+    /// share. There is one error, which reports such a match, if some outcome refuses and they
+    /// share no error, or if finding out takes more runs than the limit. Any other error is one
+    /// that the nodes produce under some outcome, so it points at a keyword and a value as the
+    /// build promises. If each keyword is monotone and the runs are within the limit, there is no
+    /// error exactly if the greatest solution of the nodes accepts.
+    ///
+    /// If the matcher says that it finishes every match, the call looks for the verdict first, and
+    /// for errors only if the instance is invalid. With a limit on steps (`with_work_limit`), the
+    /// one error reports the limit if the call needs one more.
     ///
     /// # Errors
     ///
-    /// Fails out of memory.
+    /// Out of memory.
     pub fn iter_errors<'i>(
         &self,
         alloc: Global,
@@ -125,19 +140,25 @@ impl<K: Validate, M: Matcher> Validator<K, M> {
         }
     }
 
-    /// Returns the evaluation of the instance: the unit of each schema and of each keyword that it is asked of. Where the run
-    /// meets no unfinished match, these are the units that the nodes have, which a build promises to be the plain ones where no
-    /// chain of references returns. Where the matcher leaves matches unfinished that the run meets, the evaluation is made of the
-    /// errors that all outcomes of them share instead: it has one unit for each, at its paths, without absolute locations and
-    /// annotations, inside one at empty locations. There is one error, which tells of such a match, if some outcome refuses and
-    /// they share no error, or if that takes more runs than a call makes. If it takes no more, the outermost unit is valid exactly
-    /// if the instance is valid under every outcome; where each keyword is monotone, exactly if the greatest solution of the nodes
-    /// accepts. Where a limit is set on the steps of a call (`with_work_limit`), and it would take one more, the evaluation is made of
-    /// the one error that tells of the limit.
+    /// Returns the evaluation of the instance, with a unit for each schema and keyword evaluated.
+    ///
+    /// If the run meets no unfinished match, these are the units of the nodes. A build promises
+    /// them to be the plain ones if no chain of references returns.
+    ///
+    /// If the run meets unfinished matches, the evaluation is made of the errors that all outcomes
+    /// of them share. It has one unit for each error, at its paths, without absolute locations and
+    /// annotations, inside a unit at empty locations. There is one error, which reports such a
+    /// match, if some outcome refuses and they share no error, or if finding out takes more runs
+    /// than the limit. If the runs are within the limit, the outermost unit is valid exactly if the
+    /// instance is valid under every outcome; if each keyword is monotone, exactly if the greatest
+    /// solution of the nodes accepts.
+    ///
+    /// With a limit on steps (`with_work_limit`), the evaluation is made of the one error that
+    /// reports the limit if the call needs one more.
     ///
     /// # Errors
     ///
-    /// Fails out of memory.
+    /// Out of memory.
     pub fn evaluate(&self, alloc: Global, instance: &Value) -> Result<Evaluation, OutOfMemory>
         ensures depth { IfOk result (AreSoOrGiveLimit K.Validate M.Matcher.own self.now instance.now EvaluatesFromSomeDepth) }
         ensures senses { IfOk result (AreSoOrGiveLimit K.Validate M.Matcher.own self.now instance.now EvaluatesInEverySense) }

@@ -10,12 +10,15 @@ use schema_traits::matcher::Matcher;
 use std::alloc::Global;
 
 impl<K: CloneKeyword, M: Matcher> Validator<K, M> {
-    /// Returns a clone of the validator: it has the same root, draft, limits and numbers that a solver follows, its nodes are the
-    /// same but for their keywords, which have the shapes of its source's, and its matcher matches alike. So it answers equally.
+    /// Returns a clone of the validator, which returns the same answers.
+    ///
+    /// It has the same root, draft, limits, and numbers that its solver inlines. Its nodes are the
+    /// same except for their keywords, which have the shapes of the originals, and its matcher
+    /// matches alike.
     ///
     /// # Errors
     ///
-    /// Fails out of memory.
+    /// Out of memory.
     pub fn clone(&self, alloc: Global) -> Result<Validator<K, M>, OutOfMemory>
         ensures root { IfOk result (λ copy. copy.root ≡ self.now.root) }
         ensures draft { IfOk result (λ copy. copy.draft ≡ self.now.draft) }
