@@ -1,5 +1,5 @@
--- A schema that builds and passes the check is refused by no build but for want of memory: each other refusal names a cause that
--- stands, says that more keys are reached than there are, or has the error of a document that is not accepted.
+-- A build refuses a schema that builds and passes the check only for lack of memory: any other refusal names a cause that holds, or
+-- says that more keys are reached than there are, or has the error of a document that is not accepted.
 use Rattle.std.proofs.Common.{ap, arith, false, inl, inr, length, refl, subst, sym, true, [], List, ℕ, ◌∙◌, ◌∷◌, ◌≡◌}
 use Rattle.std.specs.Prelude.{All, AllPairs, Decides, Err, Ok, Result, string_bytes, ◌≤◌}
 use Rattle.std.specs.Cmp.{IsEquivalence, both_ways}

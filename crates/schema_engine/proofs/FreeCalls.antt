@@ -39,7 +39,7 @@ module _ (v : Sense) (most : ℕ) where
 
 -- ---- two calls speak of one sense
 
--- what is said by the answers of the calls, texts being spoken of or not
+-- what the answers of the calls say, whether texts are covered or not
 abbrev Verdict : ℕ → Bool → Bool → Sense → Type 0
 Verdict most b texts v = VerdictSays v most is_valid b
 
@@ -52,7 +52,7 @@ Errors most es texts v = ErrorsAnswered v most texts es
 abbrev Evaluated : ℕ → EvaluationNode → Bool → Sense → Type 0
 Evaluated most u texts v = EvaluationAnswered v most texts u
 
--- a fact where both calls decide
+-- a fact if both calls decide
 abbrev WhereBoth : ℕ → Call → Call → Type 0 → Bool → Sense → Type 0
 WhereBoth most call call' fact texts v = Decides v most call → Decides v most call' → fact
 

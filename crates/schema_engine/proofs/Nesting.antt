@@ -70,7 +70,7 @@ module _ (v : Sense) (most : ℕ) where
       go (inl d) = let (shared, first, is) = says.0 d in let (shared', first', is') = says'.0 d in by_shared shared shared' o o' (one_first first first') is is'
       go (inr n) = inr (says.1 n, says'.1 n)
 
-  -- where no match is met there is no failure
+  -- if no match is met there is no failure
   pub first_alone : (o o' : Option Error) → branch_at v validate [] ≡ None → SameFirst v most o o' → o ≡ o'
   first_alone o o' e (inl same) = same
   first_alone o o' e (inr ((x, fails, is), other)) = absurd (cc (e, fails.is_first))
@@ -162,7 +162,7 @@ module _ (v : Sense) (most : ℕ) where
 
 -- ---- calls with two limits
 
--- where a call decides within two limits, what it says within the second it says within the first
+-- if a call decides within two limits, it says the same within both
 module _ (v : Sense) (most most' : ℕ) (call : Call) (here : Decides v most call) (there : Decides v most' call) where
   within : {P Q : Type 0} → h.Either (Decides v most' call) P Q → h.Either (Decides v most call) P Q
   within says = (λ decides. says.0 there, λ not. absurd (not here))
@@ -240,7 +240,7 @@ module _ {A State S T C Maker Run K M : Type 0} (resolvers : ResolverMembers A S
   abbrev Says : Program C M → Data → (Bool → Sense → Type 0) → Type 0
   Says p instance = OfEverySense keywords.shape keywords.words keywords.is_whole matchers.matching p instance
 
-  -- where it means the plain meaning, this is said of the plain meaning
+  -- if it means the plain meaning, this is said of the plain meaning
   of_plain : (options : Options) (schema : Data) (p : Program C M) → MeansPlainly parts options schema p → (instance : Data) (fact : Bool → Sense → Type 0) → Says p instance fact → PlainlyOf parts options schema instance fact
   of_plain options schema p means instance fact =
       plainly_from parts.resolver parts.table parts.matcher parts.words options schema parts.shape parts.is_whole parts.matching p instance fact means
@@ -269,7 +269,7 @@ module _ {A State S T C Maker Run K M : Type 0} (resolvers : ResolverMembers A S
   evaluations options schema nested nested' p p' runs means means' instance u u' = both_plainly options schema p p' means means' instance
       (λ texts v. EvaluationAnswered v p.runs texts u) (λ texts v. EvaluationAnswered v p'.runs texts u') (λ texts v. EvaluationsAgree v p.runs texts u u') (λ texts v says says'. evaluations_agree v p.runs texts u u' says (subst (λ most. EvaluationAnswered v most texts u') (sym runs) says'))
 
-  -- the units of an evaluation are those of the plain meaning, where the validator has these
+  -- the units of an evaluation are those of the plain meaning, if the validator has these
   plain_units : (options : Options) (schema : Data) (p : Program C M) → MeansPlainly parts options schema p → HasPlainUnits parts options schema p
       → (instance : Data) (u : EvaluationNode) → UnitsInEverySense keywords matchers p instance u → UnitsPlainly parts options schema instance u
   plain_units options schema p means has instance u told texts root is_root speaks no_return keys reach n deep =

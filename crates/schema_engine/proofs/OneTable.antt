@@ -171,7 +171,7 @@ module _ {S K R C M : Type 0} (h : Handed S K R C M) (options : Options) (schema
   abbrev units_by : Matcher → Nodes K → (Place → Subject) → Assumptions → ℕ → ℕ → Unit_
   units_by m nodes subject as' n i = guarded_within (yes_unit nodes) (node_unit (h.words texts) m nodes subject (completion_of as')) n i [] [] []
 
-  -- they are those that its run gives, which is the same in both tables
+  -- they are those of its run, which is the same in both tables
   units_alike : (subject : Place → Subject) (as' : Assumptions) (n i : ℕ) → units_by h.matcher table subject as' n i ≡ units_by h.matcher table' subject as' n i
   units_alike subject as' n i =
       sym (runs_say_outcomes (h.words texts) h.matcher table subject as' n i [] [] []).1

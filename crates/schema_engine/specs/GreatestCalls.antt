@@ -1,6 +1,7 @@
--- Where each keyword is monotone, what the calls of a schema and an instance answer is the greatest solution of the schema: the
--- largest set of pairs, of a target and of a place, that stands by itself holds the root's target at the root place. So it is said of
--- chains of references that return too, of two validators of one schema, and where the matcher finishes every match.
+-- If each keyword is monotone, the answer of a call about a schema and an instance is the greatest
+-- solution of the schema: whether the largest set of pairs, of a target and of a place, that
+-- supports itself holds the root's target at the root place. This holds even if chains of
+-- references return, for two validators of one schema, and if the matcher finishes every match.
 use Rattle.std.specs.Prelude.{Bool, List, Option, is_none, true, ℕ, ◌↔◌, ◌≡◌, ◌≤◌}
 use Rattle.serde_json.specs.Data.{Data}
 use Rattle.theory_definitions.specs.Matching.{Matcher}
@@ -35,7 +36,8 @@ module _ {K S R M : Type 0} (shape : K → S) (words : Bool → Keywords S R) (m
   abbrev pub sense_at : Data → ℕ → Sense
   sense_at instance n = guarded_sense (words texts) (matching p.matcher) (numbered shape p.nodes) (subject_in instance) n p.root
 
--- where the matcher finishes every match, each call decides: then it is so of its answer with no depth
+-- if the matcher finishes every match, each call decides: then the answer is as said, without a
+-- depth
 abbrev pub FinishingAccepts : {C Run K M : Type 0} → KeywordMembers C Run K → MatcherMembers M → Type 0
 FinishingAccepts {C} {M = M} keywords matchers = (p : Program C M) (instance : Data) → Finishes (matchers.matching p.matcher) → 1 ≤ p.runs → (call : Call) (answer : Bool → Bool)
     → SaysAccepted keywords matchers p instance call answer → (texts : Bool) → Speaks keywords.shape keywords.words keywords.is_whole matchers.matching p instance texts
@@ -43,16 +45,17 @@ FinishingAccepts {C} {M = M} keywords matchers = (p : Program C M) (instance : D
 
 -- ---- a call of schema and instance
 
--- what is handed in, the options, the schema, and the instance
+-- the parts, the options, the schema, and the instance
 module _ {S K R C M : Type 0} (h : Handed S K R C M) (options : Options) (schema instance : Data) where
-  -- where each keyword of what the root reaches is monotone and the call decides, its answer is a yes exactly if, under every
-  -- completion, the largest set of targets and places that stands by itself holds the root's target at the root place; of nodes
-  -- compiled from the schema, from some depth on
+  -- if each keyword of what the root reaches is monotone and the call decides, its answer is
+  -- "valid" exactly if, under every outcome of the matches, the largest set of targets and places
+  -- that supports itself holds the root's target at the root place; of nodes compiled from the
+  -- schema, from some depth on
   abbrev pub SaysGreatest : Call → (Bool → Bool) → Type 0
   SaysGreatest call answer = PointingOf h options schema instance
       (λ w root v texts. EachIsMonotone w root → by_targets.SaysGreatest w root instance v options.runs call (answer texts ≡ true))
 
-  -- the verdict is a yes
+  -- the verdict is "valid"
   abbrev pub DecidesGreatest : Bool → Type 0
   DecidesGreatest valid = SaysGreatest is_valid (λ texts. valid)
 
@@ -64,25 +67,27 @@ module _ {S K R C M : Type 0} (h : Handed S K R C M) (options : Options) (schema
   abbrev pub ErrorsGreatest : List ValidationError → Type 0
   ErrorsGreatest es = SaysGreatest iter_errors (λ texts. is_empty es)
 
-  -- the evaluation's verdict is a yes
+  -- the evaluation's verdict is "valid"
   abbrev pub EvaluatesGreatest : EvaluationNode → Type 0
   EvaluatesGreatest u = SaysGreatest evaluate (λ texts. verdict_in texts u)
 
 -- ---- two validators of one schema
 
--- the members of the traits, and the resolver, the table and the matcher that are handed in to both builds
+-- the members of the traits, and the resolver, the table and the matcher of both builds
 module _ {A State S T C Maker Run K M : Type 0} (resolvers : ResolverMembers A State S) (tables : TableMembers T C Maker Run K) (keywords : KeywordMembers C Run K) (matchers : MatcherMembers M) (resolver : A) (table : T) (matcher : M) where
   abbrev both : Handed S K (Run × Answer) C M
   both = handed_to_both resolvers tables keywords matchers resolver table matcher
 
-  -- of two validators that accept as one schema does: a fact about what both say, at each great enough depth, where each keyword of what the root reaches is monotone and both calls decide
+  -- of two validators that accept as one schema does: a fact about what both say, at each great
+  -- enough depth, if each keyword of what the root reaches is monotone and both calls decide
   abbrev WhereBothDecide : Options → Data → Data → Program C M → Call → Program C M → Call → (Bool → Type 0) → Type 0
   WhereBothDecide options schema instance p call p' call' fact = (texts : Bool) (root : Key S) → IsRoot (parts both options texts) schema root → EachIsMonotone (parts both options texts) root
       → Speaks keywords.shape keywords.words keywords.is_whole matchers.matching p instance texts → Speaks keywords.shape keywords.words keywords.is_whole matchers.matching p' instance texts
       → (deep : ℕ) × ((n : ℕ) → deep ≤ n → Decides (sense_at keywords.shape keywords.words matchers.matching p texts instance n) p.runs call
       → Decides (sense_at keywords.shape keywords.words matchers.matching p' texts instance n) p'.runs call' → fact texts)
 
-  -- any two calls say yes alike: `is_valid` by answering true, `validate` none, `iter_errors` the empty list, and `evaluate` by a unit that is valid
+  -- any two calls have the same verdict: `is_valid` by returning true, `validate` none,
+  -- `iter_errors` the empty list, and `evaluate` a valid unit
   abbrev pub GreatestAnswersAgree : Type 0
   GreatestAnswersAgree = (options : Options) (schema : Data) (p p' : Program C M) → AcceptsAsSchema both options schema p → AcceptsAsSchema both options schema p' → (instance : Data)
       → (call call' : Call) (answer answer' : Bool → Bool) → SaysAccepted keywords matchers p instance call answer → SaysAccepted keywords matchers p' instance call' answer'
@@ -94,7 +99,8 @@ module _ {A State S T C Maker Run K M : Type 0} (resolvers : ResolverMembers A S
       → (b b' : Bool) → DecidesAccepted keywords matchers p instance b → DecidesAccepted keywords matchers p' instance b'
       → WhereBothDecide options schema instance p is_valid p' is_valid (λ texts. b ≡ b')
 
-  -- of one validator whose matcher finishes every match: a call says yes exactly if the greatest solution of the schema accepts
+  -- of one validator whose matcher finishes every match: the verdict of a call is "valid" exactly
+  -- if the greatest solution of the schema accepts
   abbrev pub FinishingGreatest : Type 0
   FinishingGreatest = (options : Options) (schema : Data) (p : Program C M) → AcceptsAsSchema both options schema p → (instance : Data) → Finishes (matchers.matching p.matcher) → 1 ≤ p.runs
       → (call : Call) (answer : Bool → Bool) → SaysAccepted keywords matchers p instance call answer

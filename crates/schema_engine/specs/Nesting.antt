@@ -1,9 +1,11 @@
--- The limit on how many targets of references are compiled one inside another changes no answer. Two validators that mean the
--- plain meaning of one schema, as builds with any two limits give them, and whose calls make equally many runs at most, answer alike
--- of every instance where no chain of references returns: the verdicts are equal, and so are the errors and the evaluations. Only
--- where both calls give the failure of a match that stays unfinished may each show it at a site of its own. Where one may make more
--- runs than the other, it decides what the other decides, and answers alike there. Nor does either limit change whether a schema
--- builds by the same meta validators, want of memory aside.
+-- The limit on how many targets of references are compiled one inside another changes no answer.
+-- Two validators that mean the plain meaning of one schema, as builds with any two limits return
+-- them, and whose calls have the same limit on runs, answer every instance alike if no chain of
+-- references returns: the verdicts are equal, and so are the errors and the evaluations. Only if
+-- both calls return the failure of an unfinished match, may each show it at a site of its own. If
+-- one may make more runs than the other, it decides what the other decides, and answers alike
+-- there. Nor does either limit change whether a schema builds by the same meta validators, except
+-- for lack of memory.
 use Rattle.std.specs.Prelude.{Bool, List, None, Option, Some, [], false, is_none, map, option_map, true, ℕ, ◌∷◌, ◌≡◌, ◌≤◌, ◌⊎◌}
 use Rattle.serde_json.specs.Data.{Data}
 use Rattle.theory_definitions.specs.Cover.{Call, Decides, Sense, branch_at, evaluate, is_valid, iter_errors, validate}
@@ -32,7 +34,7 @@ use Rattle.schema_compiled.specs.Program.{Program}
 
 -- ---- two answers about one sense
 
--- answers of calls that make so many runs at most
+-- answers of calls with this limit on runs
 module _ (v : Sense) (most : ℕ) where
   -- there is a first error, and it is the failure
   abbrev pub FirstFails : Option Error → Type 0
@@ -42,12 +44,13 @@ module _ (v : Sense) (most : ℕ) where
   abbrev pub SameFirst : Option Error → Option Error → Type 0
   SameFirst o o' = (o ≡ o') ⊎ (FirstFails o × FirstFails o')
 
-  -- the errors of two calls of one kind are equal in all of these, in one order; or both calls give the failure alone
+  -- the errors of two calls of one kind are equal in all of these, in one order; or both calls
+  -- return the failure alone
   abbrev pub SameErrors : Call → List Error → List Error → Type 0
   SameErrors call es es' = (es ≡ es') ⊎ (OneFailure v most call es × OneFailure v most call es')
 
-  -- where texts are not spoken of: both are none, or neither is; both are the failure where the call doesn't decide; and they are
-  -- equal but for the texts where the first run meets no unfinished match
+  -- if texts are not covered: both are none, or neither is; both are the failure if the call does not decide; and they are
+  -- equal but for the texts if the first run meets no unfinished match
   pub record FirstsAgreeUnspoken (o o' : Option ValidationError) : Type 0 where
     pub verdict : is_none o ≡ is_none o'
     pub undecided : ¬ (Decides v most validate) → FirstFails (option_map (error_of true) o) × FirstFails (option_map (error_of true) o')
@@ -59,12 +62,12 @@ module _ (v : Sense) (most : ℕ) where
     pub undecided : ¬ (Decides v most iter_errors) → OneFailure v most iter_errors (map (error_of true) es) × OneFailure v most iter_errors (map (error_of true) es')
     pub alone : branch_at v iter_errors [] ≡ None → map (error_of false) es ≡ map (error_of false) es'
 
-  -- two first errors agree, texts being spoken of or not
+  -- two first errors agree, whether texts are covered or not
   abbrev pub FirstsAgree : Bool → Option ValidationError → Option ValidationError → Type 0
   FirstsAgree true o o' = SameFirst (option_map (error_of true) o) (option_map (error_of true) o')
   FirstsAgree false o o' = FirstsAgreeUnspoken o o'
 
-  -- two lists of errors agree, texts being spoken of or not
+  -- two lists of errors agree, whether texts are covered or not
   abbrev pub ErrorsAgree : Bool → List ValidationError → List ValidationError → Type 0
   ErrorsAgree true es es' = SameErrors iter_errors (map (error_of true) es) (map (error_of true) es')
   ErrorsAgree false es es' = ErrorsAgreeUnspoken es es'
@@ -79,8 +82,8 @@ module _ (v : Sense) (most : ℕ) where
   abbrev pub SameUnits : Unit_ → Unit_ → Type 0
   SameUnits u u' = (u ≡ u') ⊎ (IsOfFailure true u × IsOfFailure true u')
 
-  -- two evaluations agree: the verdicts are equal; both are made of the failure where the call doesn't decide; and where the first
-  -- run meets an unfinished match and texts are spoken of, the units are equal, or both are made of the failure
+  -- two evaluations agree: the verdicts are equal; both are made of the failure if the call does not decide; and if the first
+  -- run meets an unfinished match and texts are covered, the units are equal, or both are made of the failure
   pub record EvaluationsAgree (texts : Bool) (u u' : EvaluationNode) : Type 0 where
     pub verdict : verdict_in texts u ≡ verdict_in texts u'
     pub undecided : ¬ (Decides v most evaluate) → IsOfFailure texts (unit_of texts u) × IsOfFailure texts (unit_of texts u')
@@ -88,13 +91,14 @@ module _ (v : Sense) (most : ℕ) where
 
 -- ---- two validators of one schema
 
--- the members of the traits, and the resolver, the table and the matcher that are handed in to both builds
+-- the members of the traits, and the resolver, the table and the matcher of both builds
 module _ {A State S T C Maker Run K M : Type 0} (resolvers : ResolverMembers A State S) (tables : TableMembers T C Maker Run K) (keywords : KeywordMembers C Run K) (matchers : MatcherMembers M) (resolver : A) (table : T) (matcher : M) where
-  -- what is handed in to both builds, as data
+  -- the parts of both builds, as data
   abbrev pub handed_to_both : Handed S K (Run × Answer) C M
   handed_to_both = handed resolvers tables keywords matchers resolver table matcher
 
-  -- what is said of two validators that mean the plain meaning of one schema, by options that differ in their limits on nested targets alone, and whose calls make equally many runs at most
+  -- a fact about two validators that mean the plain meaning of one schema, by options that differ
+  -- in their limits on nested targets alone, and whose calls have the same limit on runs
   abbrev OfBoth : (Options → Data → Program C M → Program C M → Type 0) → Type 0
   OfBoth says = (options : Options) (schema : Data) (nested nested' : ℕ) (p p' : Program C M) → p.runs ≡ p'.runs
       → MeansPlainly handed_to_both (limited options p.runs nested) schema p → MeansPlainly handed_to_both (limited options p'.runs nested') schema p' → says options schema p p'
@@ -123,7 +127,8 @@ module _ {A State S T C Maker Run K M : Type 0} (resolvers : ResolverMembers A S
       → EvaluatesInEverySense keywords matchers p instance u → EvaluatesInEverySense keywords matchers p' instance u'
       → PlainlyOf handed_to_both options schema instance (λ texts v. EvaluationsAgree v p.runs texts u u'))
 
-  -- where both validators have the plain units too, the units of two evaluations are equal where the first run meets no unfinished match
+  -- if both validators have the plain units too, the units of two evaluations are equal if the
+  -- first run meets no unfinished match
   abbrev pub UnitsOfBoth : Type 0
   UnitsOfBoth = OfBoth (λ options schema p p'. HasPlainUnits handed_to_both options schema p → HasPlainUnits handed_to_both options schema p'
       → (instance : Data) (u u' : EvaluationNode) → UnitsInEverySense keywords matchers p instance u → UnitsInEverySense keywords matchers p' instance u'
@@ -157,7 +162,8 @@ module _ {A State S T C Maker Run K M : Type 0} (resolvers : ResolverMembers A S
 
   -- ---- two builds of one schema
 
-  -- where a build succeeds, whatever its limits on runs and on nested targets, another by options that differ in these alone and the same meta validators is refused for want of memory alone
+  -- if a build succeeds, whatever its limits on runs and on nested targets, another by options that
+  -- differ in these alone and with the same meta validators is refused only for lack of memory
   abbrev pub BuildsAgree : Type 0
   BuildsAgree = (options : Options) (schema : Data) (runs runs' nested nested' : ℕ) (refuses : MetaChecks) (e : BuildError)
       → SchemaBuilds handed_to_both (limited options runs nested) schema → PassesCheck handed_to_both.resolver refuses (limited options runs nested) schema

@@ -1,4 +1,4 @@
-//! One instance asked of a schema: built by the default options and asked in one call.
+//! Validating one instance by one schema, with the default options, in one call.
 ghost use Rattle.std.specs.Prelude.{IfOk, IfErr, IfSome, All, OnOk};
 ghost use Rattle.serde_json.specs.View.{view};
 ghost use Rattle.schema_reports.specs.ReportViews.{BorrowsItsPlace};
@@ -23,13 +23,16 @@ use schema_validator::validator::Validator;
 use serde_json::Value;
 use std::alloc::Global;
 
-/// Returns whether a schema accepts the instance. Where the matcher leaves matches unfinished, the schema has to accept it
-/// under every outcome of them, as with `Validator::is_valid`. Where each keyword of what the root reaches is monotone, and the call
-/// decides, it accepts exactly where the greatest solution does, also where chains of references return.
+/// Returns whether a schema accepts the instance.
+///
+/// If the matcher leaves matches unfinished, the schema has to accept it under every outcome of
+/// them, as with `Validator::is_valid`. If each keyword of what the root reaches is monotone and
+/// the call decides, it accepts exactly if the greatest solution does, even if chains of references
+/// return.
 ///
 /// # Errors
 ///
-/// Fails if the schema is refused, or out of memory.
+/// The schema is refused, or out of memory.
 pub fn is_valid<S: Resolver, T: KeywordTable<K>, K: Validate, M: Matcher, V: MetaValidators>(
     alloc: Global,
     schema: &Value,
@@ -56,12 +59,13 @@ pub fn is_valid<S: Resolver, T: KeywordTable<K>, K: Validate, M: Matcher, V: Met
     Ok(built.is_valid(alloc, instance)?)
 }
 
-/// Returns the first error of the instance as an inner `Err`, and an inner `Ok` if a schema accepts it, as
-/// `Validator::validate` does.
+/// Returns the first error as an inner `Err`, or an inner `Ok` if a schema accepts the instance.
+///
+/// It is the answer of `Validator::validate`.
 ///
 /// # Errors
 ///
-/// Fails if the schema is refused, or out of memory.
+/// The schema is refused, or out of memory.
 pub fn validate<'i, S: Resolver, T: KeywordTable<K>, K: Validate, M: Matcher, V: MetaValidators>(
     alloc: Global,
     schema: &Value,
@@ -93,11 +97,13 @@ pub fn validate<'i, S: Resolver, T: KeywordTable<K>, K: Validate, M: Matcher, V:
     Ok(answer?)
 }
 
-/// Returns all errors of the instance in order, and none if a schema accepts it, as `Validator::iter_errors` does.
+/// Returns all errors in order, or none if a schema accepts the instance.
+///
+/// They are the answer of `Validator::iter_errors`.
 ///
 /// # Errors
 ///
-/// Fails if the schema is refused, or out of memory.
+/// The schema is refused, or out of memory.
 pub fn iter_errors<'i, S: Resolver, T: KeywordTable<K>, K: Validate, M: Matcher, V: MetaValidators>(
     alloc: Global,
     schema: &Value,
@@ -129,14 +135,17 @@ pub fn iter_errors<'i, S: Resolver, T: KeywordTable<K>, K: Validate, M: Matcher,
     Ok(answer?)
 }
 
-/// Returns the evaluation of the instance by a schema, as `Validator::evaluate` does. Where no chain of references returns and
-/// the run meets no unfinished match, its units are the plain ones: those of the schema with each reference looked up anew. Each
-/// error in a unit points at a keyword that the unit's evaluation path leads to, and at a value inside the instance; where the run
-/// meets such a match, as the errors do that the units are made of.
+/// Returns the evaluation of the instance by a schema.
+///
+/// It is the answer of `Validator::evaluate`. If no chain of references returns and the run meets
+/// no unfinished match, its units are the plain ones: those of the schema with each reference
+/// looked up anew. Each error in a unit points at a keyword that the unit's evaluation path leads
+/// to, and at a value inside the instance. If the run meets an unfinished match, it points as the
+/// errors do that the units are made of.
 ///
 /// # Errors
 ///
-/// Fails if the schema is refused, or out of memory.
+/// The schema is refused, or out of memory.
 pub fn evaluate<S: Resolver, T: KeywordTable<K>, K: Validate, M: Matcher, V: MetaValidators>(
     alloc: Global,
     schema: &Value,

@@ -1,4 +1,4 @@
-//! The compiler, the check of a schema by the meta validators, and what makers of keywords are given.
+//! The compiler, the check of a schema by the meta validators, and the input of keyword makers.
 pub use schema_compiler::compiler::compilation::{Compilation, Progress};
 pub use schema_compiler::compiler::reservations::{Reservation, Reservations, ReservedNode};
 pub use schema_compiler::compiler::setup::Compiler;

@@ -1,4 +1,4 @@
-//! The traits of the parts that are handed in, node numbers, and the context of a run and its budget.
+//! The traits of the parts, node numbers, and the context of a run with its budget.
 pub use schema_reports::evaluation_result::{AbsorbedResult, EvaluationResult, accepts};
 pub use schema_run_context::kept_paths::KeptPaths;
 pub use schema_run_context::marks::{Marks, child_edge};

@@ -1,6 +1,8 @@
-//! What validators answer of instances, in one call with their build, and what is proved of any two of them. The public names of the
-//! crates below stand here in the modules `validator`, `options`, `map`, `building`, `compiled`, `reports`, `keywords`,
-//! `unfinished`, `context`, `node`, `compiler` and `ref_`, so a program names this crate alone.
+//! The engine: validators, validation in one call, and laws about them.
+//!
+//! A program needs this crate alone, because it re-exports the public names of the crates below, in
+//! the modules `validator`, `options`, `map`, `building`, `compiled`, `reports`, `keywords`,
+//! `unfinished`, `context`, `node`, `compiler` and `ref_`.
 #![tactic(auto)]
 
 pub mod calls;

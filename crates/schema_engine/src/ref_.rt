@@ -1,2 +1,2 @@
-//! References and what they lead to. The calls that compile them are those of `Compiler`.
+//! References and their targets. The calls that compile them belong to `Compiler`.
 pub use schema_keys::references::{RefTarget, ReferenceKind, reference_kind};

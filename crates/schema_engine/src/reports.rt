@@ -1,4 +1,4 @@
-//! Locations and instances, errors, and evaluations with all that they show.
+//! Locations, instances, errors, and evaluations.
 pub use schema_output::error_units::unit_of_errors;
 pub use schema_output::errors::{ErrorEntry, EvaluationErrors};
 pub use schema_output::evaluation::Evaluation;

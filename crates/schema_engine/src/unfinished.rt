@@ -1,4 +1,4 @@
-//! Matches that stay unfinished, and the search over their outcomes.
+//! Unfinished matches, and the search over their outcomes.
 pub use unfinished_matches::assumptions::{AssumedOutcomes, MatchAssumptions};
 pub use unfinished_matches::located::LocatedMatches;
 pub use unfinished_matches::positions::{add_position, match_hash, reserve_next};
