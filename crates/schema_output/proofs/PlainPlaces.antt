@@ -1,4 +1,4 @@
--- A text that is escaped to itself stands for itself between quotes.
+-- A text that is escaped to itself needs no escapes between quotes.
 use Rattle.std.proofs.Common.{◌≡◌, ◌++◌, ◌∷◌, ◌∙◌, [], Bool, ap, append_assoc, codes, sym}
 use Rattle.json.specs.Print.{escape, quoted}
 use Rattle.theory_definitions.specs.Instance.{Text}

@@ -1,4 +1,4 @@
--- A text that prints some JSON of a value is the value's text, and what `to_string` gives is one.
+-- A text that prints some JSON of a value is the value's text, and the result of `to_string` is one.
 use Rattle.std.proofs.Common.{◌≡◌, ◌≤◌, max, suc, Bool, false, true, fold, List, [], ◌∷◌, ◌++◌, Some, option_and_then, refl, sym, ap, ap₂, subst, ◌∙◌, arith, append-nil}
 use Rattle.std.proofs.lemmas.Grind.{fold-append}
 use Rattle.json.specs.Json as json
@@ -90,7 +90,7 @@ prints_of_text d text spaceless ordered reads_back =
       reads = λ shallow. sym (read_tokens j text ts (subst (λ n. n ≤ max_depth) (sym (same_depth j d ordered.2)) shallow)) ∙ reads_back shallow;
     }
 
--- ---- a value is printed as by itself, after a comma where one stands before it
+-- ---- a value is printed as by itself, after a comma if there is one before it
 
 abbrev ended : Bool → List Token → Bool
 ended c ts = fold (λ _ t. ends t) c ts

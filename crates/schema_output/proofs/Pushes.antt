@@ -5,7 +5,7 @@ use Rattle.theory_definitions.specs.Instance.{Text}
 pub behind : (old mid added : Text) → mid ≡ old ++ added → (more : Text) → mid ++ more ≡ old ++ (added ++ more)
 behind old mid added e more = ap (λ s. s ++ more) e ∙ append_assoc old added more
 
--- what a push gives where it succeeds
+-- the result of a push that succeeds
 pub pushed_whole : {T E : Type 0} (r : Result T E) (new old added : Text) → new ≡ (if is_ok r then old ++ added else old) → IfOk r (λ _. new ≡ old ++ added)
 pushed_whole (Ok t) new old added e = e
 pushed_whole (Err f) new old added e = tt

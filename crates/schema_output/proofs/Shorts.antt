@@ -16,7 +16,7 @@ use Rattle.schema_output.specs.Texts.{Prints, error_text, places_text}
 abbrev short : Report → List Described → Report
 short r ds = record r { annotations = None; errors = ds }
 
--- the member of an error, where there is one
+-- the member of an error, if there is one
 abbrev pub error_if : Option ErrorDescription → Text
 error_if None = []
 error_if (Some e) = error_text (described_of true e)
@@ -52,7 +52,7 @@ prints_with_error r d = record {
   reads = λ shallow. refl;
 }
 
--- what the report is where it is short
+-- a report that is short
 is_short : (r : UnitReport) → r.annotations ≡ None → (es : List ErrorDescription) → r.errors.items ≡ es → report_in true r ≡ short (report_in true r) (map (described_of true) es)
 is_short r none es errors = ap₂ (λ a ds. record (report_in true r) { annotations = option_map view a; errors = map (described_of true) ds }) none errors
 

@@ -1,4 +1,5 @@
--- The code's errors and units of an evaluation, as the definitions have them. Where texts are not spoken of, each counts as empty.
+-- The code's errors and units of an evaluation, as the definitions have them. If texts are not
+-- covered, each counts as empty.
 use Rattle.std.specs.Prelude.{Bool, List, OnOk, Result, String, map, true, ◌++◌, ◌≡◌}
 use Rattle.std.specs.declared.alloc.Global.{Global}
 use Rattle.serde_json.specs.Data.{Data, Members}
@@ -13,14 +14,15 @@ use Rattle.schema_output.specs.declared.errors.ErrorEntry.{ErrorEntry}
 abbrev pub shown_of : Bool → ErrorEntry → Shown
 shown_of texts e = record { report = report_in texts e.unit.now; error = described_of texts e.error.now }
 
--- what a unit says of itself, as an object; and the list format of an evaluation with this unit outermost
+-- the report of a unit, as an object; and the list format of an evaluation with this outermost unit
 abbrev pub object_by : UnitReport → Data
 object_by report = unit_object (report_in true report)
 
 abbrev pub list_by : EvaluationNode → Data
 list_by node = output_list (unit_of true node)
 
--- where there is an answer, these errors have come to those before; and the members are made so of those before
+-- if the call succeeds, these errors are appended to those before; and the members are made from
+-- those before
 abbrev pub AddsShown : {A E : Type 0} → Result A E → List ErrorEntry → List ErrorEntry → (Bool → List Shown) → Type 0
 AddsShown result old new more = OnOk result ((texts : Bool) → map (shown_of texts) new ≡ map (shown_of texts) old ++ more texts)
 

@@ -1,5 +1,5 @@
--- The units that stand for a list of errors: one for each error, in their order, under a root that speaks for the whole
--- instance and is valid exactly if there is no error. (Core 2020-12, 12.3 and 12.4)
+-- The units of a list of errors: one for each error, in their order, under a root for the whole
+-- instance, which is valid exactly if there is no error. (Core 2020-12, 12.3 and 12.4)
 use Rattle.std.specs.Prelude.{Bool, List, None, [], false, map, true, ◌∷◌}
 use Rattle.theory_definitions.specs.Pointer.{pointer_to}
 use Rattle.theory_definitions.specs.Reports.{Error, Unit_, unit, units_of}
@@ -20,8 +20,8 @@ abbrev pub is_empty : List Error → Bool
 is_empty [] = true
 is_empty (e ∷ es) = false
 
--- a unit of this verdict for the roots of schema and instance, with these units inside it: the empty pointer stands for
--- the whole document
+-- a unit with this verdict and these units inside it, for the roots of schema and instance: the
+-- empty pointer refers to the whole document
 abbrev pub root_unit : Bool → List Unit_ → Unit_
 root_unit valid us = unit (record {
   valid = valid;

@@ -1,4 +1,4 @@
--- Worked rows: what the definitions show of small evaluations, as texts with no spaces.
+-- Worked rows: what the definitions show of small evaluations, as texts without spaces.
 use Rattle.std.specs.Prelude.{List, None, Some, [], codes, false, true, ◌++◌, ◌∷◌, ◌≡◌}
 use Rattle.serde_json.specs.Data.{member, no_members, object, string}
 use Rattle.serde_json.specs.Written.{compact_text}
@@ -7,7 +7,7 @@ use Rattle.theory_definitions.specs.Reports.{Described, Error, Unit_, unit, unit
 use Rattle.schema_output.specs.ErrorUnits.{errors_unit}
 use Rattle.schema_output.specs.Output.{errors_by_name, output_list}
 
--- a valid unit of the whole instance that the schema's own way leads to, with these units inside it
+-- a valid unit of the whole instance, at this evaluation path, with these units inside it
 abbrev pub accepting : Text → List Unit_ → Unit_
 accepting path us = unit (record {
   valid = true;
@@ -65,7 +65,7 @@ RefusedIsListed = compact_text (output_list titled_unit)
 abbrev pub missing : Text → Described
 missing name = record { name = codes "required"; text = codes "\"" ++ name ++ codes "\" is a required property" }
 
--- of two errors of `required`, the first; the other keyword's error stands beside it
+-- of two errors of `required`, the first is shown; the other keyword's error is beside it
 abbrev pub FirstErrorStands : Type 0
 FirstErrorStands = errors_by_name (missing (codes "a") ∷ refused_text ∷ missing (codes "b") ∷ [])
     ≡ member (codes "required") (string (codes "\"a\" is a required property"))
@@ -81,7 +81,7 @@ pattern_error = record {
   text = codes "unfinished";
 }
 
--- an error's unit is shown by its pointer, also where the error has an absolute location
+-- an error's unit is shown by its pointer, even if the error has an absolute location
 abbrev pub ErrorIsListed : Type 0
 ErrorIsListed = compact_text (output_list (errors_unit (pattern_error ∷ [])))
     ≡ codes "{\"details\":[{\"evaluationPath\":\"\",\"instanceLocation\":\"\",\"schemaLocation\":\"\",\"valid\":false}"

@@ -1,4 +1,4 @@
--- What the text of the list format is, and what its parts are while it is written.
+-- The text of the list format, and its parts while it is written.
 use Rattle.std.specs.Prelude.{Bool, List, Some, [], codes, false, map, ◌++◌, ◌∷◌, ◌≡◌, ◌≤◌}
 use Rattle.json.specs.Json as json
 use Rattle.json.specs.Lex.{tokens}
@@ -11,9 +11,9 @@ use Rattle.theory_definitions.specs.Instance.{Text}
 use Rattle.theory_definitions.specs.Reports.{Described, Report, Unit_, children_of}
 use Rattle.schema_output.specs.Output.{reports_in_each, schema_location, unit_object}
 
--- a value as JSON: the compact text of a value that holds no fraction. The digits of a fraction are not said; of any value, the
--- text has no space, has its items and members in their order, members in the byte order of their names, and is read as the value
--- where that nests no deeper than a reader goes
+-- the compact text of a value, as JSON. It says nothing of the digits of fractions. The text of any
+-- value has no spaces, has items and members in their order, members in the byte order of their
+-- names, and is read as the value if that nests no deeper than the reader allows
 pub record IsJsonText (d : Data) (text : Text) : Type 0 where
   pub compact : has_float d ≡ false → text ≡ compact_text d
   pub spaceless : text ≡ print (tokens text)
@@ -22,7 +22,7 @@ pub record IsJsonText (d : Data) (text : Text) : Type 0 where
 
 -- ---- for private clauses
 
--- the text is that of some JSON, which says what the value does
+-- the text is that of some JSON value which says what this one does
 pub record Prints (d : Data) (text : Text) : Type 0 where
   pub json : json.Json
   pub printed : text ≡ print (json_tokens json)
@@ -30,7 +30,7 @@ pub record Prints (d : Data) (text : Text) : Type 0 where
   pub same : blank json ≡ outline d
   pub reads : depth d ≤ max_depth → of_json json ≡ Some d
 
--- texts of these values, each after a comma, stand behind what was there
+-- texts of these values, each after a comma, follow what was there
 abbrev pub Follow : List Data → Text → Text → Type 0
 Follow [] old new = new ≡ old
 Follow (d ∷ ds) old new = (text : Text) × Prints d text × Follow ds (old ++ 44 ∷ text) new
@@ -50,18 +50,18 @@ places_text r =
     ++ (codes ",\"instanceLocation\":" ++ (quoted r.instance_location
     ++ (codes ",\"schemaLocation\":" ++ (quoted (schema_location r) ++ valid_text r.valid)))))
 
--- the same, where each text stands for itself between quotes
+-- the same, if no text needs escapes
 abbrev pub plain_places_text : Text → Text → Text → Bool → Text
 plain_places_text path place schema valid =
     codes "\"evaluationPath\":\"" ++ (path
     ++ (codes "\",\"instanceLocation\":\"" ++ (place
     ++ (codes "\",\"schemaLocation\":\"" ++ (schema ++ 34 ∷ valid_text valid)))))
 
--- the member of one error, with a comma behind it
+-- the member of one error, with a comma after it
 abbrev pub error_text : Described → Text
 error_text d = codes "\"errors\":{" ++ (quoted d.name ++ (codes ":" ++ (quoted d.text ++ codes "},")))
 
--- what stands before the first unit, and what behind the last
+-- the text before the first unit, and the one after the last
 abbrev pub opening : Text
 opening = codes "{\"details\":["
 

@@ -10,7 +10,7 @@ use schema_reports::reports::ValidationError;
 use schema_reports::shared_location::SharedLocation;
 use std::alloc::Global;
 
-// The unit of one error, which is the unit's own.
+// Returns the unit of one error.
 fn error_unit(alloc: Global, error: ValidationError<'_>) -> Result<EvaluationNode, OutOfMemory>
     ensures unit { IfOk result (λ n. (texts : Bool) → unit_of texts n ≡ error_unit (error_of texts error.entry)) }
 {
@@ -36,7 +36,7 @@ fn error_unit(alloc: Global, error: ValidationError<'_>) -> Result<EvaluationNod
     })
 }
 
-// A root of this verdict with these units inside it, which says nothing else.
+// Returns a root with this verdict and these units, and nothing else.
 fn root_unit(
     alloc: Global,
     valid: bool,
@@ -59,9 +59,15 @@ fn root_unit(
     })
 }
 
-/// Returns a root with one unit inside it for each error, in their order. The root is valid exactly if there is no error, and its
-/// locations are empty; an error's unit is invalid, and has the error's locations, its keyword and its text. No unit has an
-/// absolute location or annotations. Fails only if memory cannot be allocated.
+/// Returns a root with one unit for each error, in their order.
+///
+/// The root is valid exactly if there is no error, and its locations are empty. The unit of an
+/// error is invalid, and has the error's locations, keyword and text. No unit has an absolute
+/// location or annotations.
+///
+/// # Errors
+///
+/// Out of memory.
 pub fn unit_of_errors(
     alloc: Global,
     errors: Vec<ValidationError<'_>>,

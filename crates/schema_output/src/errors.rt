@@ -11,14 +11,16 @@ use schema_reports::location::OutOfMemory;
 use std::marker::Model;
 use std::vec::IntoIter;
 
-/// An error of an evaluation, and what the unit says whose own it is.
+/// An error of an evaluation, with the report of its unit.
 #[derive(Clone, Copy)]
 pub struct ErrorEntry<'e> {
     pub unit: &'e UnitReport,
     pub error: &'e ErrorDescription,
 }
 
-/// An iterator over the errors of an evaluation, in their order. Contracts see the errors that are left.
+/// An iterator over the errors of an evaluation, in their order.
+///
+/// Contracts see the remaining errors.
 #[derive(Drop)]
 pub struct EvaluationErrors<'e> {
     entries: IntoIter<ErrorEntry<'e>>,
@@ -62,7 +64,7 @@ impl<'e> Iterator for EvaluationErrors<'e> {
         self.entries.next()
     }
 
-    /// Returns the number of errors that are left, as both bounds.
+    /// Returns the number of remaining errors, as both bounds.
     fn size_hint(&self) -> (usize, Option<usize>)
         ensures lower { IsWithinCount result.0 (at_most (length self.now)) }
         ensures upper { IfSome result.1 (UpTo (at_most (length self.now))) }
@@ -73,7 +75,7 @@ impl<'e> Iterator for EvaluationErrors<'e> {
     }
 }
 
-// Adds the errors of one unit to those before them.
+// Appends the errors of one unit.
 fn push_own_errors<'e>(
     report: &'e UnitReport,
     entries: &mut Vec<ErrorEntry<'e>>,
@@ -89,7 +91,7 @@ fn push_own_errors<'e>(
     Ok(())
 }
 
-/// Adds the errors of a unit, and of the units inside it, to those before them.
+/// Appends the errors of a unit and of the units inside it.
 pub(crate) fn push_errors<'e>(
     node: &'e EvaluationNode,
     entries: &mut Vec<ErrorEntry<'e>>,

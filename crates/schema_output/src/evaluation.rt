@@ -1,4 +1,4 @@
-//! An evaluation of an instance: its units, and what is shown of them. (Core 2020-12, 12.4)
+//! An evaluation of an instance: its units, and their output. (Core 2020-12, 12.4)
 ghost use Rattle.std.specs.Prelude.{◌≡◌, ◌≤◌, Bool, IfOk, Some, false, map, string_bytes};
 ghost use Rattle.schema_reports.specs.Showing.{Shows};
 ghost use Rattle.json.specs.Lex.{tokens};
@@ -21,7 +21,9 @@ use serde_json::Value;
 use std::alloc::Global;
 use std::marker::Model;
 
-/// What evaluating an instance gave: a unit, and the units inside it. Contracts see the outermost unit.
+/// The result of evaluating an instance: a unit, with units inside it.
+///
+/// Contracts see the outermost unit.
 #[derive(Drop)]
 pub struct Evaluation {
     root: EvaluationNode,
@@ -39,33 +41,44 @@ impl Model for Evaluation {
 }
 
 impl Evaluation {
-    /// Returns the evaluation with this unit outermost.
+    /// Returns the evaluation with this outermost unit.
     pub fn new(root: EvaluationNode) -> Evaluation
         ensures root { result ≡ root }
     {
         Evaluation { root }
     }
 
-    /// Returns whether the outermost unit is valid, which says whether the instance is.
+    /// Returns whether the instance is valid, by the verdict of the outermost unit.
     pub fn is_valid(&self) -> bool
         ensures verdict { (texts : Bool) → result ≡ (report_of (unit_of texts self.now)).valid }
     {
         self.root.report.valid
     }
 
-    /// Returns the output in the list format: an object with the verdict, `valid`, and with an object for each unit, `details`, a
-    /// unit before the units inside it. A unit's object has `valid`, `evaluationPath`, `schemaLocation`, which is the absolute
-    /// location where there is one, and `instanceLocation`; `errors`, where there are any, the text of the first error of each
-    /// keyword; and `annotations`, where there are any, which are `droppedAnnotations` in an invalid unit. Fails only if memory
-    /// cannot be allocated.
+    /// Returns the output in the list format.
+    ///
+    /// It is an object with the verdict, `valid`, and with `details`, an object for each unit, a
+    /// unit before the units inside it. The object of a unit has `valid`, `evaluationPath`,
+    /// `schemaLocation` (the absolute location if there is one), and `instanceLocation`. It has
+    /// `errors` if there are any, with the text of the first error of each keyword. It has
+    /// `annotations` if there are any; in an invalid unit they are `droppedAnnotations`.
+    ///
+    /// # Errors
+    ///
+    /// Out of memory.
     pub fn list(&self, alloc: Global) -> Result<Value, OutOfMemory>
         ensures list { Shows view result (list_by self.now) }
     {
         output_list(alloc, &self.root)
     }
 
-    /// Returns the text of `list` as JSON with no space. It makes no value of the whole list, so it is cheaper than the text of
-    /// that value. Fails only if memory cannot be allocated.
+    /// Returns the text of `list` as JSON without spaces.
+    ///
+    /// It does not build the value of the whole list, so it is cheaper than writing that value.
+    ///
+    /// # Errors
+    ///
+    /// Out of memory.
     pub fn list_text(&self, alloc: Global) -> Result<String, OutOfMemory>
         ensures text { IfOk result (λ s. has_float (list_by self.now) ≡ false → string_bytes s ≡ compact_text (list_by self.now)) }
         ensures compact { IfOk result (λ s. string_bytes s ≡ print (tokens (string_bytes s))) }
@@ -75,8 +88,13 @@ impl Evaluation {
         output_text(alloc, &self.root)
     }
 
-    /// Returns an iterator over the errors of the units, each with its unit: a unit's errors in their order, and before those of
-    /// the units inside it. Fails only if memory cannot be allocated.
+    /// Returns an iterator over the errors of the units, each with its unit.
+    ///
+    /// The errors of a unit come in their order, before those of the units inside it.
+    ///
+    /// # Errors
+    ///
+    /// Out of memory.
     pub fn iter_errors(&self, alloc: Global) -> Result<EvaluationErrors<'_>, OutOfMemory>
         ensures errors { IfOk result (λ es. (texts : Bool) → map (shown_of texts) es ≡ shown_in (unit_of texts self.now)) }
     {

@@ -1,4 +1,5 @@
-//! The output of an evaluation: as a list, as its errors one by one, and as units made of the errors of a run.
+//! The output of an evaluation: as a list, as single errors, and as units made of the errors of a
+//! run.
 #![tactic(auto)]
 
 pub mod error_units;

@@ -13,7 +13,7 @@ use schema_reports::location::OutOfMemory;
 use serde_json::{Map, Value};
 use std::alloc::Global;
 
-// Puts a value at a name, in place of one that has the name.
+// Sets the value of a name, and replaces one that is there.
 fn put_value(
     alloc: Global,
     object: &mut Map<String, Value>,
@@ -27,7 +27,7 @@ fn put_value(
     Ok(())
 }
 
-// Puts a text at a name, in place of what has the name.
+// Sets the text of a name, and replaces a value that is there.
 fn put_text(
     alloc: Global,
     object: &mut Map<String, Value>,
@@ -40,7 +40,8 @@ fn put_text(
     put_value(alloc, object, name, Value::String(text))
 }
 
-// The texts of errors by the names of their keywords. The first of a name is put last, and stands.
+// Returns the texts of errors by the names of their keywords. The first error of a name is inserted
+// last, so it is the one that remains.
 fn errors_by_name(
     alloc: Global,
     errors: &[ErrorDescription],
@@ -59,7 +60,7 @@ fn errors_by_name(
     Ok(object)
 }
 
-// Puts the errors of a unit into its object, where there are any.
+// Adds the errors of a unit to its object, if there are any.
 fn put_errors(
     alloc: Global,
     object: &mut Map<String, Value>,
@@ -74,7 +75,8 @@ fn put_errors(
     put_value(alloc, object, "errors", Value::Object(errors))
 }
 
-// Puts the annotations of a unit into its object, where there are any: those of an invalid one are dropped.
+// Adds the annotations of a unit to its object, if there are any. Those of an invalid unit are
+// dropped ones.
 fn put_annotations(
     alloc: Global,
     object: &mut Map<String, Value>,
@@ -96,7 +98,7 @@ fn put_annotations(
     }
 }
 
-/// The URI of a unit's place in the schema where it has one, else that place as a pointer.
+/// Returns the URI of a unit's place in the schema if it has one, and else that place as a pointer.
 pub(crate) fn schema_location(report: &UnitReport) -> &str
     ensures location { result.now ≡ schema_location (report_in true report.now) }
 {
@@ -106,7 +108,7 @@ pub(crate) fn schema_location(report: &UnitReport) -> &str
     }
 }
 
-/// What a unit says of itself, as an object.
+/// Returns the object of a unit.
 pub(crate) fn unit_object(alloc: Global, report: &UnitReport) -> Result<Value, OutOfMemory>
     ensures object { Shows view result (object_by report.now) }
 {
@@ -135,7 +137,7 @@ pub(crate) fn unit_object(alloc: Global, report: &UnitReport) -> Result<Value, O
     Ok(Value::Object(object))
 }
 
-// Adds an object for the unit, and one for each unit inside it, to those before them.
+// Appends an object for the unit, and one for each unit inside it.
 fn push_objects(
     alloc: Global,
     node: &EvaluationNode,
@@ -151,7 +153,7 @@ fn push_objects(
     Ok(())
 }
 
-/// The output of an evaluation with this unit outermost.
+/// Returns the output of an evaluation with this outermost unit.
 pub(crate) fn output_list(alloc: Global, root: &EvaluationNode) -> Result<Value, OutOfMemory>
     ensures list { Shows view result (list_by root.now) }
 {

@@ -1,7 +1,7 @@
 //! Worked rows: what the definitions show of small evaluations.
 ghost use Rattle.schema_output.specs.Rows.{ErrorIsListed, FirstErrorStands, RefusedIsListed, StringIsListed};
 
-/// The worked rows hold: each clause is one row, and it names what the definitions show of a small evaluation.
+/// States the worked rows: each clause names what the definitions show of a small evaluation.
 ///
 /// The rows are computed from the definitions alone. The function does nothing when it runs.
 pub fn worked_rows()

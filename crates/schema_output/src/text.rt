@@ -17,7 +17,7 @@ use schema_reports::shared_location::is_plain;
 use serde_json::Value;
 use std::alloc::Global;
 
-// Adds a text in quotes.
+// Appends a text in quotes.
 fn push_quoted(alloc: Global, out: &mut String, text: &str) -> Result<(), OutOfMemory>
     ensures quoted { Adds result out.old out.new (quoted text.now) }
 {
@@ -30,7 +30,7 @@ fn push_quoted(alloc: Global, out: &mut String, text: &str) -> Result<(), OutOfM
     out.push_str(value.to_string(alloc)?.as_str())
 }
 
-// The last member that every unit has, and the end of its object.
+// Returns the last member that every unit has, with the end of its object.
 fn valid_text(valid: bool) -> &'static str
     ensures text { result.now ≡ valid_text valid }
 {
@@ -41,7 +41,7 @@ fn valid_text(valid: bool) -> &'static str
     }
 }
 
-// The same, behind a text and its quote.
+// Returns the same with the quote before it.
 fn ending_text(valid: bool) -> &'static str
     ensures text { result.now ≡ 34 ∷ valid_text valid }
 {
@@ -52,7 +52,7 @@ fn ending_text(valid: bool) -> &'static str
     }
 }
 
-// Adds the members that every unit has, where their texts stand for themselves between quotes, and closes its object.
+// Appends the members that every unit has, whose texts need no escapes, and closes the object.
 fn push_plain_places(
     out: &mut String,
     path: &str,
@@ -71,7 +71,7 @@ fn push_plain_places(
     out.push_str(ending_text(valid))
 }
 
-// Whether the URI of a unit's place in the schema, or else that place, stands for itself between quotes.
+// Returns whether the schema location of a unit needs no escapes.
 fn is_plain_schema(report: &UnitReport) -> bool
     ensures plain { result ≡ true → escape (schema_location (report_in true report.now)) ≡ schema_location (report_in true report.now) }
 {
@@ -81,7 +81,7 @@ fn is_plain_schema(report: &UnitReport) -> bool
     }
 }
 
-// Adds the members that every unit has, and closes its object.
+// Appends the members that every unit has, and closes the object.
 fn push_places(alloc: Global, out: &mut String, report: &UnitReport) -> Result<(), OutOfMemory>
     ensures places { Adds result out.old out.new (places_text (report_in true report.now)) }
 {
@@ -103,7 +103,7 @@ fn push_places(alloc: Global, out: &mut String, report: &UnitReport) -> Result<(
     out.push_str(valid_text(report.valid))
 }
 
-// Adds the member of a unit's one error.
+// Appends the member of a unit's one error.
 fn push_error(alloc: Global, out: &mut String, error: &ErrorDescription) -> Result<(), OutOfMemory>
     ensures error { Adds result out.old out.new (error_text (described_of true error.now)) }
 {
@@ -114,7 +114,7 @@ fn push_error(alloc: Global, out: &mut String, error: &ErrorDescription) -> Resu
     out.push_str("},")
 }
 
-// Adds the object of a unit that has no annotations and one error at most.
+// Appends the object of a unit that has no annotations and at most one error.
 fn push_short(alloc: Global, out: &mut String, report: &UnitReport) -> Result<(), OutOfMemory>
     requires short { (report.now.annotations ≡ None) × (length report.now.errors.items ≤ 1) }
     ensures pushed { Adds result out.old out.new (compact_text (object_by report.now)) }
@@ -126,7 +126,7 @@ fn push_short(alloc: Global, out: &mut String, report: &UnitReport) -> Result<()
     push_places(alloc, out, report)
 }
 
-// Adds the object of a unit, by way of a value.
+// Appends the object of a unit, by way of a value.
 fn push_value(alloc: Global, out: &mut String, report: &UnitReport) -> Result<(), OutOfMemory>
     ensures pushed { OnOk result ((text : Text) × Prints (object_by report.now) text
         × (string_bytes out.new ≡ string_bytes out.old ++ text)) }
@@ -135,7 +135,7 @@ fn push_value(alloc: Global, out: &mut String, report: &UnitReport) -> Result<()
     out.push_str(text.as_str())
 }
 
-// Adds the object of a unit.
+// Appends the object of a unit.
 fn push_unit(alloc: Global, out: &mut String, report: &UnitReport) -> Result<(), OutOfMemory>
     ensures pushed { OnOk result ((text : Text) × Prints (object_by report.now) text
         × (string_bytes out.new ≡ string_bytes out.old ++ text)) }
@@ -147,7 +147,7 @@ fn push_unit(alloc: Global, out: &mut String, report: &UnitReport) -> Result<(),
     }
 }
 
-// Adds the objects of the units inside a unit, each after a comma.
+// Appends the objects of the units inside a unit, each after a comma.
 fn push_below(alloc: Global, out: &mut String, node: &EvaluationNode) -> Result<(), OutOfMemory>
     ensures pushed { OnOk result (Follow (objects_below (unit_of true node.now)) (string_bytes out.old) (string_bytes out.new)) }
 {
@@ -159,7 +159,7 @@ fn push_below(alloc: Global, out: &mut String, node: &EvaluationNode) -> Result<
     Ok(())
 }
 
-// What stands behind the last unit.
+// Returns the text after the last unit.
 fn closing(valid: bool) -> &'static str
     ensures text { result.now ≡ closing valid }
 {
@@ -170,7 +170,7 @@ fn closing(valid: bool) -> &'static str
     }
 }
 
-/// The text of the output of an evaluation with this unit outermost.
+/// Returns the text of the output of an evaluation with this outermost unit.
 pub(crate) fn output_text(alloc: Global, root: &EvaluationNode) -> Result<String, OutOfMemory>
     ensures text { IfOk result (λ text. IsJsonText (list_by root.now) (string_bytes text)) }
 {
