@@ -1,5 +1,5 @@
--- The result of an evaluation in terms of the definitions, and what its constructors and its two
--- changes do.
+-- The result of an evaluation in terms of the definitions, and the results that its constructors
+-- and its two changes (annotations, one more error) produce.
 use Rattle.std.specs.List.{list_all}
 use Rattle.std.specs.Prelude.{Bool, List, None, Some, [], ◌++◌, ◌∷◌, false, map, option_map, string_bytes, true}
 use Rattle.serde_json.specs.Data.{Data}
@@ -11,6 +11,7 @@ use Rattle.schema_reports.specs.declared.evaluation_result.AbsorbedResult.{Absor
 use Rattle.schema_reports.specs.declared.evaluation_result.EvaluationResult.{EvaluationResult}
 use Rattle.schema_reports.specs.declared.evaluation_result.EvaluationResult.TheVariants as result
 
+-- a keyword's own result, without those of the keywords that it absorbs
 abbrev pub gives_of : Bool → EvaluationResult → Gives
 gives_of texts (result.Valid annotations children) = record {
   valid = true;
@@ -27,12 +28,12 @@ gives_of texts (result.Invalid errors annotations children) = record {
   absorbed = [];
 }
 
--- the result of an absorbed keyword, by its name
+-- the result of an absorbed keyword, with its name
 abbrev pub named_of : Bool → AbsorbedResult → Named
 named_of texts a = let g = gives_of texts a.result in
     record { name = string_bytes a.keyword; valid = g.valid; children = g.children; annotations = g.annotations; errors = g.errors }
 
--- a result, with those of the keywords that it absorbs
+-- a keyword's result, together with those of the keywords that it absorbs
 abbrev pub gives_with : Bool → EvaluationResult → List AbsorbedResult → Gives
 gives_with texts r absorbed = record (gives_of texts r) { absorbed = map (named_of texts) absorbed }
 
@@ -44,9 +45,10 @@ of_units us = record { valid = list_all (λ u. (report_of u).valid) us; children
 abbrev pub refusing : List Described → Gives
 refusing ds = record { valid = false; children = []; annotations = None; errors = ds; absorbed = [] }
 
+-- a result with these annotations in place of its own
 abbrev pub annotated : Data → Gives → Gives
 annotated a g = record g { annotations = Some a }
 
--- a result with one more error
+-- a result with one more error, which makes it invalid
 abbrev pub errored : Described → Gives → Gives
 errored d g = record g { valid = false; errors = g.errors ++ d ∷ [] }

@@ -1,4 +1,4 @@
--- Whether an instance holds a fraction, so that its text is not covered.
+-- Whether an instance holds a fraction. If it does, its text is not covered.
 use Rattle.std.specs.Prelude.{Bool, false}
 use Rattle.serde_json.specs.Written.{has_float}
 use Rattle.theory_definitions.specs.Instance.{Subject, a_name, a_value}

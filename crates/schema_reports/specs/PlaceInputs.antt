@@ -1,5 +1,5 @@
 -- What a place feeds to a hasher: for each step the number of its kind, then its name or its index.
--- Places that are the same feed the same.
+-- Places that are the same feed the same input.
 use Rattle.std.specs.Prelude.{ℕ, ◌≡◌, ◌++◌, ◌∷◌, [], List, true}
 use Rattle.std.specs.Hash as fed
 use Rattle.std.proofs.Common.{ap}

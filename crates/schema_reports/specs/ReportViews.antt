@@ -25,7 +25,8 @@ error_of texts e = record {
   text = spoken texts (string_bytes e.text);
 }
 
--- where a schema is evaluated, if its own location has this absolute location
+-- the context in which a schema with this absolute location is evaluated; every location inside it
+-- is mapped to that same absolute location
 abbrev pub where_of : Place → Text → Text → Option (String Global) → Where
 where_of place location path absolute = record { place = place; path = path; location = location; absolute = λ _. option_map string_bytes absolute }
 

@@ -1,4 +1,4 @@
--- A unit, one level at a time: what it says of itself, and the units inside it, in order.
+-- A unit, one level at a time: its own report, and the units inside it, in order.
 use Rattle.std.specs.Prelude.{◌≡◌, Bool, map}
 use Rattle.theory_definitions.specs.Reports.{Unit_, report_of, unit, units_of}
 use Rattle.schema_reports.specs.UnitViews.{report_in, unit_of, unit_step}

@@ -1,7 +1,7 @@
 //! Evaluations: what a schema says of an instance, unit by unit.
 //!
-//! See Core 2020-12, 12.4. There is a unit for each place of the schema and place of the instance
-//! that were evaluated together.
+//! See Core 2020-12, 12.4. There is one unit for each schema place and instance place that were
+//! evaluated together.
 ghost use Rattle.std.specs.Prelude.{◌≡◌, [], ◌++◌, ◌∷◌, Bool, OnErr, map, OnOk};
 ghost use Rattle.schema_reports.specs.Showing.{Yields};
 ghost use Rattle.std.specs.List.{list_all};
@@ -23,12 +23,12 @@ pub struct ErrorDescription {
     pub text: String,
 }
 
-/// What a unit says of itself.
+/// What a unit reports of itself, without the units inside it.
 ///
-/// `evaluation_path` is the path through the schemas that led to the unit. `schema_location` is its
-/// place in its schema, and `absolute_keyword_location` its URI, which is `None` if its schema
-/// resource has no identifier. `instance_location` is the instance's place. `errors` holds its own
-/// errors only. Each location is a JSON Pointer (RFC 6901).
+/// `evaluation_path` is the path through the schemas that led to the unit. `schema_location` is the
+/// unit's place in its schema, and `absolute_keyword_location` its URI, or `None` if its schema
+/// resource has no identifier. `instance_location` is the place of the instance. `errors` holds the
+/// unit's own errors only. Paths and places are JSON Pointers (RFC 6901).
 #[derive(Drop)]
 pub struct UnitReport {
     pub valid: bool,
@@ -40,7 +40,7 @@ pub struct UnitReport {
     pub errors: Vec<ErrorDescription>,
 }
 
-/// A unit: what it says of itself, and the units inside it, in order.
+/// A unit: its own report, and the units inside it, in order.
 #[derive(Drop)]
 pub struct EvaluationNode {
     pub report: UnitReport,

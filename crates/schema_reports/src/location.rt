@@ -83,7 +83,8 @@ fn push_decimal(text: &mut String, index: usize) -> Result<(), OutOfMemory>
     write!(text, "{index}")
 }
 
-// Returns the least number of bytes of a segment with its `/`. An index counts as its longest form.
+// Estimates the length in bytes of a segment with its `/`: of a name without escapes, or of the
+// longest index.
 fn room_for(segment: LocationSegment<'_>) -> usize {
     match segment {
         LocationSegment::Property(name) => name.len().saturating_add(1),

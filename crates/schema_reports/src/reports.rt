@@ -17,7 +17,7 @@ use std::fmt;
 use std::marker::Model;
 use std::vec::IntoIter;
 
-/// An error: an instance that a keyword refuses.
+/// An error: a keyword rejects an instance.
 ///
 /// The instance is borrowed, and `place` is its place in the whole instance. `schema_path` points
 /// at the keyword in its schema, and `evaluation_path` is the path that led to it, including
@@ -62,7 +62,8 @@ impl fmt::Display for OwnedError {
     }
 }
 
-// The text of the schema `false`, which shows the instance. The digits of floats are not covered.
+// The error text of the schema `false`, which shows the instance. The digits of floats are not
+// covered.
 fn false_text(alloc: Global, instance: Instance<'_>) -> Result<String, OutOfMemory>
     ensures text { IfOk result (λ t. subject_has_float (subject_of instance.entry) ≡ false
         → string_bytes t ≡ false_text true (subject_of instance.entry)) }
@@ -74,7 +75,7 @@ fn false_text(alloc: Global, instance: Instance<'_>) -> Result<String, OutOfMemo
 }
 
 impl<'i> ValidationError<'i> {
-    /// Returns the error of the schema `false`, which refuses every instance.
+    /// Returns the error of the schema `false`, which rejects every instance.
     ///
     /// Its text shows the instance. The contract does not cover the digits of floats.
     pub fn false_schema(

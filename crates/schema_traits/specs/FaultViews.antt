@@ -51,7 +51,7 @@ abbrev pub LiesInside : Data → Subject → Fault → Type 0
 LiesInside d s (fault.Own e) = IsPresent s (map step_of e.below.items)
 LiesInside d s (fault.Passed e) = BorrowsItsPlace d e
 
--- this holds of each fault of an answer in the modes that find errors
+-- in the modes that find errors, `LiesInside` holds for each fault of an answer
 abbrev pub FaultsLieInside : spec.Mode → Data → Subject → Answer → Type 0
 FaultsLieInside spec.for_first d s a = All (LiesInside d s) (faults_in a)
 FaultsLieInside spec.for_all d s a = All (LiesInside d s) (faults_in a)

@@ -118,11 +118,12 @@ option_list (Some a) = a ∷ []
 abbrev pub with_errors : spec.Mode → List spec.Fault → spec.Answer
 with_errors m fs = record { mode = m; verdict = is_nil fs; errors = fs; gives = record no_gives { valid = is_nil fs } }
 
--- in an evaluation the verdict is that of the keyword's own unit and of each unit that it absorbs
+-- the answer of an evaluation; it accepts if the keyword's own unit and each absorbed one are valid
 abbrev pub with_gives : spec.Gives → spec.Answer
 with_gives g = record { mode = spec.for_units; verdict = spec.all_valid g; errors = []; gives = g }
 
--- an answer shows its mode; a keyword that absorbs none has its own verdict in its unit
+-- an answer in terms of the definitions: it has the mode of its variant, and outside evaluations
+-- the keyword's own unit has the verdict of the answer
 abbrev pub answer_of : Bool → Answer → spec.Answer
 answer_of texts (answer.Verdict b) = record { mode = spec.for_verdict; verdict = b; errors = []; gives = record no_gives { valid = b } }
 answer_of texts (answer.First f) = with_errors spec.for_first (option_list (option_map (λ b. fault_of texts b.value) f))

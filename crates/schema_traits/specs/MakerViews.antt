@@ -27,7 +27,7 @@ abbrev pub purpose_of : PendingKind → spec.Purpose
 purpose_of kind.Properties = spec.for_properties
 purpose_of kind.Items = spec.for_items
 
--- what a maker receives; of a number that is pending or reserved, it learns only that it got one
+-- what a maker receives; the values of pending and reserved numbers are left out
 pub data Told : Type 0 where
   nothing_yet : Told
   the_number : ℕ → Told
@@ -71,7 +71,8 @@ IsStepOf shape n (spec.then_end spec.nothing) Nothing w = Unit {0}
 IsStepOf shape n (spec.then_end (spec.refused told error)) (Refuse e) w = told_error told (owned_error_of e) ≡ told_error told error
 IsStepOf shape n _ _ w = ⊥
 
--- a turn whose reply is the one that the maker waits for; of any other turn nothing is said
+-- if the reply is one that the maker waits for, then its step is the next one of its script;
+-- nothing is said of other replies
 abbrev pub TakesTurn : {C K : Type 0} → (C → K) → Waiting K → Told → MakerStep C → Waiting K → Type 0
 TakesTurn shape (begun s) nothing_yet step w = IsStepOf shape 0 s step w
 TakesTurn shape (waits n s skipped) (the_number m) step w = m ≡ n → IsStepOf shape (suc n) s step w
@@ -99,7 +100,7 @@ IsMade absorbed is_whole object spec.nothing = Unit {0}
 IsMade absorbed is_whole object (spec.refused told e) = members_have_float object ≡ false → told ≡ true
 
 -- whether or not a number is pending, the maker requests the same subschemas and references, and
--- ends alike
+-- ends the same
 abbrev pub PendingChangesNothing : {K : Type 0} → spec.Script K → spec.Script K → Type 0
 PendingChangesNothing free held = (is_self : Text → Bool) → spec.followed is_self free ≡ spec.followed is_self held
 

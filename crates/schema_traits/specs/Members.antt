@@ -16,7 +16,7 @@ use Rattle.schema_traits.specs.AskedAtOnce.{first_at_name}
 abbrev pub Entries : Type 0
 Entries = List (String Global × Value)
 
--- for each of these names, these members have the same as the subject
+-- the members ascend, and each of these names leads to the same in them as in the subject
 pub record HaveAllOf (s : Subject) (names : List Text) (members : Entries) : Type 0 where
   pub ascend : IsStrictlySortedBy string_cmp (keys_of members)
   pub found : AllByRecursion (λ k. after_step (to_member k) s ≡ after_step (to_member k) (a_value (object (members_view members)))) names

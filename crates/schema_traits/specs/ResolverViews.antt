@@ -41,7 +41,7 @@ entrance_of point e = record { place = place_of e.1; state = point e.0 }
 abbrev pub found_of : {S P : Type 0} → (S → P) → Target S → Found P
 found_of point t = record { place = place_of t.place; state = point t.state; draft = draft_of t.draft }
 
--- a refusal has the text of the definitions; of a lack of memory nothing is said
+-- a refusal has the text of the definitions; nothing is said of a lack of memory
 abbrev pub Refuses : {A : Type 0} → Result A Text → LookupError → Type 0
 Refuses r (Refused t) = r ≡ Err (string_bytes t)
 Refuses r OutOfMemory = Unit {0}
@@ -51,8 +51,8 @@ abbrev pub RefusesValue : {A : Type 0} → Data → Result A Text → LookupErro
 RefusesValue value r (Refused t) = (text : Text) × (r ≡ Err text) × (has_float value ≡ false → string_bytes t ≡ text)
 RefusesValue value r OutOfMemory = Unit {0}
 
--- if the resolver has a value at a path below a place, then it has a value at the place, and the
--- first is found inside it at that path
+-- if the resolver has a value at a path below a place, then it also has a value at the place, which
+-- contains the first value at that path
 abbrev pub IsInside : {S : Type 0} → Resolver S → Type 0
 IsInside r = (p : spec.SchemaPlace) (path : Place) (inner : Data) → r.value (spec.at_path p path) ≡ Some inner → (outer : Data) × (r.value p ≡ Some outer) × (subject_at outer path ≡ Some (a_value inner))
 

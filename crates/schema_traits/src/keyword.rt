@@ -44,9 +44,9 @@ pub enum Below<'s> {
 
 /// What a run marks.
 ///
-/// A child is named by the number of the maker's request. A number that was pending, or that the
-/// maker reserved, is named by its position among those that the maker got. Two positions count as
-/// different, whichever numbers they hold.
+/// A child is identified by the number of the maker's request for it. A number that was pending, or
+/// that the maker reserved, is identified by its position among those that the maker received. Two
+/// positions count as different even if they hold the same number.
 #[derive(Clone, Copy)]
 pub enum Marked {
     Child(usize),
@@ -96,7 +96,7 @@ pub enum MatchPoint<'s> {
 /// What a turn requests from the engine.
 #[derive(Clone, Copy)]
 pub enum Step<'s> {
-    /// Asks a child, named by the number of the request that the keyword's maker made.
+    /// Asks a child, identified by the number of the maker's request for it.
     ///
     /// Made by every keyword that applies subschemas, such as `allOf`, `items` and `contains`.
     Ask(usize, Below<'s>, Mode),
@@ -107,21 +107,21 @@ pub enum Step<'s> {
     Match(&'s str, &'s str, bool),
     /// Requests a match of a subject at a spot of the keyword's, or one step below it.
     ///
-    /// No keyword of the standard makes it, only tests and keywords of one's own.
+    /// No keyword of the standard makes it, only tests and custom keywords.
     MatchAt(&'s SpotMatch<'s>, &'s str, Below<'s>),
     /// Marks a child or a reserved number.
     ///
-    /// No keyword of the standard makes it, only tests and keywords of one's own.
+    /// No keyword of the standard makes it, only tests and custom keywords.
     Mark(Marked),
     /// Takes the last mark away.
     ///
-    /// No keyword of the standard makes it, only tests and keywords of one's own.
+    /// No keyword of the standard makes it, only tests and custom keywords.
     Unmark,
-    /// Requests whether a text is a pattern of ECMA-262.
+    /// Requests a check whether a text is a pattern of ECMA-262.
     ///
-    /// No keyword of the standard makes it, only keywords of one's own.
+    /// No keyword of the standard makes it, only custom keywords.
     Ecma(&'s str),
-    /// Ends the run. Every run makes it.
+    /// Ends the run.
     Done,
 }
 
@@ -137,7 +137,7 @@ pub enum Reply<'i> {
     Unit(Box<EvaluationNode>),
 }
 
-/// An error of the keyword's own. The engine joins the paths.
+/// An error that the keyword itself reports. The engine completes its paths.
 #[derive(Drop)]
 pub struct OwnError<'i> {
     pub absorbed: Option<String>,
@@ -147,7 +147,7 @@ pub struct OwnError<'i> {
     pub text: String,
 }
 
-/// An error of the keyword's own, or one of a child.
+/// An error that the keyword itself reports, or one of a child that it passes on.
 ///
 /// A child's error keeps its paths, its instance and its text.
 #[derive(Drop)]
@@ -178,11 +178,11 @@ pub enum Answer<'i> {
 }
 
 impl<'i> Answer<'i> {
-    /// Returns the evaluation that this answer stands for.
+    /// Converts the answer into the result of an evaluation.
     ///
-    /// It has what is said of the keyword's own unit and of the units of the keywords that it
-    /// absorbs. An answer of a mode other than evaluation yields its verdict alone. An answer of an
-    /// evaluation needs no memory.
+    /// That holds the results of the keyword's own unit and of the units of the keywords that it
+    /// absorbs. An answer in another mode than evaluation yields its verdict alone. An answer of an
+    /// evaluation is returned as it is, which needs no memory.
     pub fn into_evaluation(self, alloc: Global) -> Result<Box<Found>, OutOfMemory>
         ensures gives { IfOk result (λ found. (texts : Bool)
             → gives_with texts found.value.own found.value.absorbed.items ≡ (answer_of texts self.entry).gives) }
@@ -225,8 +225,8 @@ pub trait Validate: Drop {
 
     ghost remaining: { Self.Shape → Subject → (Self.Run × spec.Answer) → ℕ };
 
-    // The states, with the answer so far, that a run on an instance can be in, whatever was
-    // replied.
+    // The states that a run on an instance can reach, whatever the replies, each with the answer
+    // so far.
     ghost can_be: { Bool → Self.Shape → Subject → (Self.Run × spec.Answer) → Type 0 };
 
     ghost ends: { Bool → Self.Shape → Standing (Self.Run × spec.Answer) → spec.Answer };
@@ -235,14 +235,15 @@ pub trait Validate: Drop {
 
     /// Begins a run.
     ///
-    /// Its answer is of the run's mode, and starts as accepted, with no errors.
+    /// Its answer has the run's mode. It starts out as valid, without errors.
     fn begin(&self, alloc: Global, instance: Instance, mode: Mode) -> Result<Self::Run, OutOfMemory>
         ensures begins { IfOk result (λ run. (texts : Bool)
             → (words texts).begin (shape self.now) (subject_of instance.entry) (mode_of mode) ≡ (run, fresh (mode_of mode))) };
 
     /// Takes a turn, given the reply to the previous turn's request.
     ///
-    /// An error that the keyword passes on borrows its place as the error in the reply did.
+    /// If each error in the reply borrows the instance at its place, then so does each error that
+    /// the keyword passes on.
     fn turn<'s, 'i: 's>(
         &'s self,
         alloc: Global,

@@ -32,7 +32,7 @@ pub struct PlacedSchema<'v> {
     pub value: Option<&'v Value>,
 }
 
-/// A refusal with a text of the resolver's own, or a lack of memory.
+/// The resolver refuses, with a text of its own, or is out of memory.
 #[derive(Drop)]
 pub enum LookupError {
     Refused(String),

@@ -34,14 +34,14 @@ pub enum PendingKind {
 
 /// What the next turn of a maker receives.
 ///
-/// Among requests, only those of subschemas and references are numbered.
+/// Only requests for subschemas and references are numbered.
 #[derive(Clone, Copy)]
 pub enum MakerReply {
     /// Nothing: this is the first turn.
     Begun,
     /// The number of its request, by which its keyword asks the child.
     Child(usize),
-    /// The reference leads to the very object, and is skipped.
+    /// The reference leads to the object itself, and is skipped.
     Skipped,
     /// The number that is pending, if there is one.
     Pending(Option<PendingSchemaNode>),
@@ -52,24 +52,24 @@ pub enum MakerReply {
 /// What a maker requests, or how it ends.
 #[derive(Drop)]
 pub enum MakerStep<K> {
-    /// Requests that the value at a path strictly below the object is compiled.
+    /// Requests that the value at a path strictly below the object be compiled.
     ///
     /// Made by every keyword with subschemas.
     Compile(SchemaPath),
-    /// Requests that the text is compiled as a reference at the keyword's location.
+    /// Requests that the text be compiled as a reference at the keyword's location.
     ///
-    /// No keyword of this repository makes it; it is for tables of one's own. The compiler itself
+    /// No keyword of this repository makes it; it is for custom tables. The compiler itself
     /// compiles `$ref`.
     Refer(String),
     /// Requests the number that is pending for this purpose and this object.
     ///
     /// That is the one reserved last, by a maker that has not ended. No keyword of the standard
-    /// makes it, only tests and tables of one's own.
+    /// makes it, only tests and custom tables.
     Pending(PendingKind),
     /// Reserves the next number until the maker ends.
     ///
     /// The number is for a node of its keyword alone, or of no entry, and is only ever marked. No
-    /// keyword of the standard makes it, only tests and tables of one's own.
+    /// keyword of the standard makes it, only tests and custom tables.
     Reserve(PendingKind),
     /// Ends with a keyword, and with the names of the keywords that it absorbs.
     ///
@@ -81,16 +81,16 @@ pub enum MakerStep<K> {
     Nothing,
     /// Ends with a refusal of the schema.
     ///
-    /// Made for keywords whose value the standard does not allow, such as `minimum` with a text,
-    /// and for keywords that the table of the standard does not support, such as
+    /// Made for keywords whose value the standard does not allow, such as a `minimum` that is a
+    /// string, and for keywords that the table of the standard does not support, such as
     /// `unevaluatedItems`.
     Refuse(OwnedError),
 }
 
 /// The table of keywords.
 ///
-/// What a maker does is a script, which mentions no node numbers. Whether or not a number is
-/// pending, a maker requests the same subschemas and references, and ends alike.
+/// A maker follows a script, which mentions no node numbers. Whether or not a number is pending, it
+/// requests the same subschemas and references, and ends the same.
 pub trait KeywordTable<K: Validate> {
     type Maker: Drop;
 

@@ -31,11 +31,11 @@ groups may [] = None
 groups may (p ∷ []) = last_groups may p
 groups may (p ∷ q ∷ ps) = if is_group p then option_map (λ n. n + 1) (groups may (q ∷ ps)) else None
 
--- the same, but no groups are allowed too
+-- the same, but an empty text is also allowed, and has no groups
 abbrev pub groups_if_any : Bool → Text → Option ℕ
 groups_if_any may t = if is_empty t then Some 0 else groups may (parts 58 t)
 
--- the place of the first `::`, counted from n
+-- the index of the first `::`, counted from n
 abbrev pub gap_from : ℕ → Text → Option ℕ
 gap_from n [] = None
 gap_from n (c ∷ []) = None
@@ -45,7 +45,7 @@ abbrev pub is_eight : Option ℕ → Bool
 is_eight None = false
 is_eight (Some n) = n == 8
 
--- both together have at most seven groups: `::` replaces at least one
+-- both sides together have at most seven groups, since `::` replaces at least one
 abbrev pub leave_a_group : Option ℕ → Option ℕ → Bool
 leave_a_group None right = false
 leave_a_group (Some m) None = false

@@ -4,7 +4,7 @@ use Rattle.std.specs.Prelude.{Bool, None, Option, Some, [], codes, drop, false, 
 use Rattle.text_formats.specs.Characters.{Text, fits, four, two}
 use Rattle.text_formats.specs.Cutting.{after_digits, is_empty}
 
--- every fourth year has 29 February; of the years divisible by 100, only every fourth one has (RFC
+-- a year is a leap year if it is divisible by 4, unless it is divisible by 100 but not by 400 (RFC
 -- 3339, appendix C)
 abbrev pub is_leap_year : ℕ → Bool
 is_leap_year y = (y % 4 == 0) && (not (y % 100 == 0) || (y % 400 == 0))
@@ -50,8 +50,8 @@ abbrev pub offset_after : Option Text → Option ℕ
 offset_after None = None
 offset_after (Some t) = offset t
 
--- a second is 0 to 59; it may be 60 in the last minute of a day of UTC, which leap seconds are
--- added to (RFC 3339, section 5.7 and appendix D)
+-- a second is 0 to 59; it may be 60 in the last minute of a day in UTC, to which leap seconds are
+-- added (RFC 3339, section 5.7 and appendix D)
 abbrev pub is_second : ℕ → ℕ → Option ℕ → Bool
 is_second second minutes None = false
 is_second second minutes (Some minutes_ahead) =

@@ -9,8 +9,8 @@ use Rattle.text_formats.specs.Cutting.{parts}
 abbrev pub is_label_character : Bool → ℕ → Bool
 is_label_character wide c = is_letter c || is_digit c || (c == 45) || (wide && nat_le 128 c)
 
--- at most 63 characters; a label with characters outside ASCII would be counted as encoded, and is
--- not counted here
+-- at most 63 characters; a label with characters outside ASCII may have any length, since the limit
+-- is one on its encoded form
 abbrev pub is_short_label : Text → Bool
 is_short_label t = nat_le (length t) 63 || list_any (λ c. nat_le 128 c) t
 

@@ -7,8 +7,8 @@ use Rattle.uri_references.specs.Components.{Components, components}
 use Rattle.text_formats.specs.Characters.{Text, is_between}
 use Rattle.text_formats.specs.Uris.{fit}
 
--- ucschar: of each plane after the first, all characters but the last two; of the fourteenth plane,
--- only those from the 4096th on
+-- ucschar: three ranges of plane 0; of planes 1 to 14, all code points but the last two of each
+-- plane, and of plane 14 only those from U+E1000 on
 abbrev pub is_universal : ℕ → Bool
 is_universal c =
     is_between 0xA0 0xD7FF c || is_between 0xF900 0xFDCF c || is_between 0xFDF0 0xFFEF c

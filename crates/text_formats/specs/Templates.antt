@@ -62,8 +62,8 @@ is_expression_end (Some p) = are_variables p.0 && is_made true Literal p.1
 abbrev pub is_after_brace : Text → Bool
 is_after_brace t = is_expression_end (cut 125 t)
 
--- *literals, and after each brace the end of an expression and *literals; no literal contains such
--- a brace
+-- *literals, and after each opening brace the end of an expression and *literals; no literal
+-- contains an opening brace
 abbrev pub is_cut_as_template : Text → Option (Text × Text) → Bool
 is_cut_as_template t None = is_made true Literal t
 is_cut_as_template t (Some p) = is_made true Literal p.0 && list_all is_after_brace (parts 123 p.1)

@@ -28,7 +28,7 @@ fn is_octet(text: &[u8]) -> bool
 }
 
 #[tactic(auto, using(crate::proofs::Parting::each_after, crate::proofs::Parting::each_alone))]
-// Returns whether each part of a text between dots is such a number.
+// Returns whether each part of a text between dots is a number from 0 to 255.
 fn are_octets(text: &[u8]) -> bool
     ensures each { result ≡ list_all spec.is_octet (parts 46 text.now) }
 {
@@ -49,7 +49,7 @@ pub fn is_ipv4_in(text: &[u8]) -> bool
     text.iter().filter(|byte| **byte == b'.').count() == 3 && are_octets(text)
 }
 
-/// Returns whether a text is an IPv4 address, as `127.0.0.1`.
+/// Returns whether a text is an IPv4 address, such as `127.0.0.1`.
 pub fn is_ipv4(text: &str) -> bool
     ensures ipv4 { result ≡ spec.is_ipv4 text.now }
 {
@@ -105,7 +105,7 @@ fn groups_if_any(may_be_ipv4: bool, text: &[u8]) -> Option<usize>
     }
 }
 
-// Returns the place of the first `::`.
+// Returns the index of the first `::`.
 fn gap(text: &[u8]) -> Option<usize>
     ensures gap { result ≡ spec.gap_from 0 text.now }
     ensures within { IfSome result (λ n. n + 2 ≤ length text.now) }
@@ -151,7 +151,7 @@ pub fn is_ipv6_in(text: &[u8]) -> bool
     }
 }
 
-/// Returns whether a text is an IPv6 address, as `2001:db8::1`.
+/// Returns whether a text is an IPv6 address, such as `2001:db8::1`.
 pub fn is_ipv6(text: &str) -> bool
     ensures ipv6 { result ≡ spec.is_ipv6 text.now }
 {

@@ -1,4 +1,4 @@
-//! Classes of ASCII characters, and the numbers that decimal digits write.
+//! Classes of ASCII characters, and the numbers that decimal digits denote.
 ghost use Rattle.std.specs.Prelude.{◌≡◌, ◌<◌, ◌+◌, IsTrue, length};
 ghost use Rattle.std.specs.List.{list_all};
 ghost use Rattle.text_formats.specs.Characters as spec;
@@ -38,7 +38,7 @@ pub fn are_hex_digits(text: &[u8]) -> bool
     text.iter().all(|byte| is_hex_digit(*byte))
 }
 
-// Returns the number that a decimal digit writes.
+// Returns the number that a decimal digit denotes.
 pub(crate) fn value(byte: u8) -> u32
     ensures value { result ≡ spec.value byte }
     ensures small { result < 256 }
@@ -46,7 +46,7 @@ pub(crate) fn value(byte: u8) -> u32
     u32::from(byte.saturating_sub(b'0'))
 }
 
-// Returns the number that two decimal digits write.
+// Returns the number that the two decimal digits at this index denote.
 pub(crate) fn two(text: &[u8], at: usize) -> u32
     requires { at + 1 < length text.now }
     ensures two { result ≡ spec.two text.now at }
@@ -55,7 +55,7 @@ pub(crate) fn two(text: &[u8], at: usize) -> u32
     10 * value(text[at]) + value(text[at + 1])
 }
 
-// Returns the number that four decimal digits write.
+// Returns the number that the four decimal digits at this index denote.
 pub(crate) fn four(text: &[u8], at: usize) -> u32
     requires { at + 3 < length text.now }
     ensures four { result ≡ spec.four text.now at }
@@ -73,7 +73,7 @@ fn is_like(like: u8, byte: u8) -> bool
     }
 }
 
-// Returns whether each character of a text matches the one at its place in a picture.
+// Returns whether each character of a picture matches the one at the same index in a text.
 fn are_like(picture: &[u8], text: &[u8]) -> bool
     ensures like { result ≡ spec.are_like picture.now text.now }
 {

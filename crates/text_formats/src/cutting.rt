@@ -16,7 +16,7 @@ pub fn split(text: &[u8], count: usize) -> (&[u8], &[u8])
     }
 }
 
-// Returns the place of the first mark.
+// Returns the index of the first mark.
 fn place_of(text: &[u8], mark: u8) -> Option<usize>
     ensures place { result ≡ position (λ c. c == mark) text.now }
     ensures within { IfSome result (λ n. n < length text.now) }

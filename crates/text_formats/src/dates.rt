@@ -34,7 +34,7 @@ fn is_date_in(text: &[u8]) -> bool
     fits(b"0000-00-00", text) && is_day(four(text, 0), two(text, 5), two(text, 8))
 }
 
-/// Returns whether a text is a date, as `2024-02-29`.
+/// Returns whether a text is a date, such as `2024-02-29`.
 pub fn is_date(text: &str) -> bool
     ensures date { result ≡ spec.is_date text.now }
 {
@@ -70,7 +70,7 @@ fn offset(text: &[u8]) -> Option<u32>
     }
 }
 
-// Returns the text after a fraction of a second, if it begins with one.
+// Returns the text after a fraction of a second, or the text itself if it has no decimal point.
 fn after_fraction(text: &[u8]) -> Option<&[u8]>
     ensures after { option_map (λ t. t.now) result ≡ spec.after_fraction text.now }
 {
@@ -90,7 +90,7 @@ fn offset_after(text: Option<&[u8]>) -> Option<u32>
     }
 }
 
-// Returns whether a minute of a day has this second.
+// Returns whether a minute of a day has this second: 60 is allowed only in the last minute in UTC.
 fn is_second(second: u32, minutes: u32, minutes_ahead: Option<u32>) -> bool
     requires day { minutes < 1440 }
     requires small { IfSome minutes_ahead (λ n. n ≤ 1440) }
@@ -123,9 +123,9 @@ fn is_time_in(text: &[u8]) -> bool
     is_time_of_day(time, left)
 }
 
-/// Returns whether a text is a time of day with an offset, as `23:20:50.52Z`.
+/// Returns whether a text is a time of day with an offset from UTC.
 ///
-/// The offset is from UTC.
+/// An example is `23:20:50.52Z`.
 pub fn is_time(text: &str) -> bool
     ensures time { result ≡ spec.is_time text.now }
 {
@@ -141,9 +141,9 @@ fn is_time_after_t(text: &[u8]) -> bool
     }
 }
 
-/// Returns whether a text is a date and a time, as `1985-04-12T23:20:50.52Z`.
+/// Returns whether a text is a date and a time of day with an offset from UTC.
 ///
-/// The time of day has an offset from UTC.
+/// An example is `1985-04-12T23:20:50.52Z`.
 pub fn is_date_time(text: &str) -> bool
     ensures date_time { result ≡ spec.is_date_time text.now }
 {

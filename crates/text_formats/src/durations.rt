@@ -84,7 +84,7 @@ fn is_years(text: &[u8]) -> bool
     }
 }
 
-/// Returns whether a text is a duration, as `P4DT12H30M5S`.
+/// Returns whether a text is a duration, such as `P4DT12H30M5S`.
 pub fn is_duration(text: &str) -> bool
     ensures duration { result ≡ spec.is_duration text.now }
 {

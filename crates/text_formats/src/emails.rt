@@ -115,14 +115,16 @@ fn is_mailbox(wide: bool, text: &[u8]) -> bool
     }
 }
 
-/// Returns whether a text is a mail address, as `joe.bloggs@example.com`.
+/// Returns whether a text is a mail address, such as `joe.bloggs@example.com`.
 pub fn is_email(text: &str) -> bool
     ensures email { result ≡ spec.is_email text.now }
 {
     is_mailbox(false, text.as_bytes())
 }
 
-/// Returns whether a text is an internationalized mail address, as `실례@실례.테스트`.
+/// Returns whether a text is an internationalized mail address.
+///
+/// An example is `실례@실례.테스트`.
 pub fn is_idn_email(text: &str) -> bool
     ensures email { result ≡ spec.is_idn_email text.now }
 {

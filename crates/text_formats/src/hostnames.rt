@@ -42,7 +42,7 @@ pub(crate) fn is_label(wide: bool, text: &[u8]) -> bool
         && text[text.len() - 1] != b'-'
 }
 
-/// Returns whether a text is the name of a host, as `www.example.com`.
+/// Returns whether a text is the name of a host, such as `www.example.com`.
 pub fn is_hostname(text: &str) -> bool
     ensures hostname { result ≡ spec.is_hostname text.now }
 {

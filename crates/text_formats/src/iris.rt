@@ -78,7 +78,7 @@ fn characters_fit(components: &Components<'_>) -> bool
         && universal_fits(components.fragment)
 }
 
-/// Returns whether a text is a reference to an IRI, as `/ƒøø`.
+/// Returns whether a text is an IRI reference, such as `/ƒøø`.
 pub fn is_iri_reference(text: &str) -> bool
     ensures iri_reference { result ≡ spec.is_iri_reference text.now }
 {
@@ -86,9 +86,9 @@ pub fn is_iri_reference(text: &str) -> bool
     fit(true, &components) && characters_fit(&components)
 }
 
-/// Returns whether a text is an IRI, as `http://ƒøø.ßår/?∂éœ=πîx`.
+/// Returns whether a text is an IRI, such as `http://ƒøø.ßår/?∂éœ=πîx`.
 ///
-/// An IRI names its scheme.
+/// Unlike an IRI reference, an IRI always has a scheme.
 pub fn is_iri(text: &str) -> bool
     ensures iri { result ≡ spec.is_iri text.now }
 {

@@ -1,6 +1,6 @@
 //! The formats that JSON Schema names.
 //!
-//! They are dates and times, addresses, references, pointers and more. Each is recognized by the
+//! They include dates and times, addresses, references and pointers. Each is recognized by the
 //! grammar of the standard that defines it.
 #![tactic(auto)]
 

@@ -9,8 +9,8 @@ use crate::emails::is_atom;
 use crate::hostnames::is_label;
 use crate::templates::is_variable;
 
-// What each part is: an atom of a mail address or a label of a host's name, where `true` allows
-// characters outside ASCII; or a variable of a template.
+// The kind of the parts: atoms of a mail address or labels of a host's name, where `true` allows
+// characters outside ASCII, or variables of a template.
 #[derive(Clone, Copy)]
 pub(crate) enum Part {
     Atom(bool),
@@ -30,7 +30,7 @@ impl Part {
     }
 
     #[tactic(auto, using(crate::proofs::Parting::each_after, crate::proofs::Parting::each_alone))]
-    // Returns whether each part of a text between marks is one.
+    // Returns whether each part of a text between marks is of this kind.
     pub(crate) fn is_each(self, text: &[u8], mark: u8) -> bool
         ensures each { result ≡ list_all (spec.is_part self) (parts mark text.now) }
     {

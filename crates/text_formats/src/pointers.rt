@@ -29,7 +29,7 @@ fn is_pointer(text: &[u8]) -> bool
     }
 }
 
-/// Returns whether a text is a JSON pointer, as `/foo/0`.
+/// Returns whether a text is a JSON Pointer, such as `/foo/0`.
 pub fn is_json_pointer(text: &str) -> bool
     ensures pointer { result ≡ spec.is_pointer text.now }
 {
@@ -45,7 +45,7 @@ fn is_hash_or_pointer(text: &[u8]) -> bool
     }
 }
 
-/// Returns whether a text is a relative JSON pointer, as `1/objects`.
+/// Returns whether a text is a relative JSON Pointer, such as `1/objects`.
 pub fn is_relative_json_pointer(text: &str) -> bool
     ensures relative_pointer { result ≡ spec.is_relative_pointer text.now }
 {

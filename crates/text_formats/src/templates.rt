@@ -119,9 +119,9 @@ fn is_cut_as_template(text: &[u8]) -> bool
     }
 }
 
-/// Returns whether a text is a URI template, as `http://example.com/~{user}/`.
+/// Returns whether a text is a URI template, of any level.
 ///
-/// Templates of any level are allowed.
+/// An example is `http://example.com/~{user}/`.
 pub fn is_uri_template(text: &str) -> bool
     ensures template { result ≡ spec.is_template text.now }
 {

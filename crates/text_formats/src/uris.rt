@@ -10,8 +10,8 @@ use crate::characters::{are_digits, are_hex_digits, is_digit, is_hex_digit, is_l
 use crate::cutting::cut;
 use uri_references::components::Components;
 
-// The class of characters that a component may have: a host's name, the part before a host, a path,
-// a query or fragment; the literals of a template, or the names of its variables.
+// A class of characters: those of a host's name, of the user information before a host, of a path,
+// of a query or fragment, of a template's literals, or of the names of its variables.
 #[derive(Clone, Copy)]
 pub(crate) enum Class {
     Name,
@@ -256,16 +256,16 @@ pub(crate) fn fit(wide: bool, components: &Components<'_>) -> bool
         && end_fits(wide, components.fragment)
 }
 
-/// Returns whether a text is a reference to a URI, as `../other?query`.
+/// Returns whether a text is a URI reference, such as `../other?query`.
 pub fn is_uri_reference(text: &str) -> bool
     ensures uri_reference { result ≡ spec.is_uri_reference text.now }
 {
     fit(false, &Components::of(text))
 }
 
-/// Returns whether a text is a URI, as `http://example.com/path`.
+/// Returns whether a text is a URI, such as `http://example.com/path`.
 ///
-/// A URI names its scheme.
+/// Unlike a URI reference, a URI always has a scheme.
 pub fn is_uri(text: &str) -> bool
     ensures uri { result ≡ spec.is_uri text.now }
 {

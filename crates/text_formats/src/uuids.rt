@@ -6,7 +6,7 @@ use crate::characters::fits;
 
 /// Returns whether a text is a universally unique identifier.
 ///
-/// One is `f81d4fae-7dec-11d0-a765-00a0c91e6bf6`.
+/// An example is `f81d4fae-7dec-11d0-a765-00a0c91e6bf6`.
 pub fn is_uuid(text: &str) -> bool
     ensures uuid { result ≡ spec.is_uuid text.now }
 {

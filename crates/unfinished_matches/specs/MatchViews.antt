@@ -22,14 +22,15 @@ match_of (outcome.Unfinished r) = spec.unfinished (reason_of r)
 abbrev pub pair_of : Text → Text → spec.Pair
 pair_of pattern subject = record { pattern = pattern; subject = subject }
 
--- the match at a site, and (below) why it was not finished there
+-- the match of this pattern and this subject, met at a site
 abbrev pub met_at : Text → Text → Site → Met
 met_at pattern subject site = record { pair = pair_of pattern subject; site = site }
 
+-- the match met at a site, and the reason why it was not finished there
 abbrev pub failed_at : Text → Text → Site → spec.Reason → Failure
 failed_at pattern subject site why = record { met = met_at pattern subject site; reason = why }
 
--- the assumed outcome of a match, or no if none is assumed
+-- the assumed outcome of a match, or `false` if none is assumed
 abbrev pub outcome_of : spec.Assumptions → Text → Text → Bool
 outcome_of assumptions pattern subject = or_no (spec.assumed assumptions (pair_of pattern subject))
 

@@ -285,8 +285,8 @@ fn keep_first<'i>(
 impl<'i> MatchAssumptions<'i> {
     /// Returns whether the match is known to be unfinished.
     ///
-    /// It is if its outcome is assumed, if it was the first match without an assumed outcome, or if
-    /// a site of it is remembered.
+    /// It is known if its outcome is assumed, if it was the first match without an assumed outcome,
+    /// or if a site of it is remembered.
     pub fn is_unfinished(&self, pattern: &str, subject: &str) -> bool
         ensures known { result ≡ is_known self.now (pair_of pattern.now subject.now) }
     {

@@ -25,14 +25,14 @@ use std::marker::Model;
 
 /// Why a match was not finished.
 ///
-/// A limit was reached, which the text names, or the regex engine failed.
+/// A limit was reached, which the text describes, or the regex engine failed.
 #[derive(Drop)]
 pub enum Reason {
     Limit(Text),
     Engine,
 }
 
-/// The answer of a matcher: whether the subject matches, or why it did not finish.
+/// The answer of a matcher: whether the subject matches, or why the match was not finished.
 #[derive(Drop)]
 pub enum Match {
     Finished(bool),
@@ -199,7 +199,7 @@ impl<'i> MatchSite<'i> {
         }
     }
 
-    /// Returns the pattern as the schema has it, if the site has that.
+    /// Returns the pattern as the schema has it, if the site holds it.
     pub fn written_pattern(&self) -> Option<&str>
         ensures pattern { option_copied result ≡ self.now.pattern }
     {
@@ -346,7 +346,7 @@ impl<'i> MatchFailure<'i> {
         &self.reason
     }
 
-    /// Takes over the first site for this match, if its own has no instance path.
+    /// Replaces a site without an instance path by the first of these sites for the match.
     pub fn locate(&mut self, located: Vec<LocatedMatch<'i>>)
         ensures { self.new ≡ located_by self.old located.entry.items }
     {
@@ -374,7 +374,7 @@ fn reason_text(alloc: Global, reason: Reason, pattern: &str) -> Result<String, O
     }
 }
 
-// Without an evaluation path, that is the schema path, and the place is the root.
+// If the site is not located, returns the schema path as the evaluation path, and the root.
 fn place_or_root<'i>(
     alloc: Global,
     located: Option<(Location, Place<'i>)>,
@@ -401,7 +401,7 @@ fn at_or_root<'i>(root: &'i Value, place: &Place<'i>) -> Instance<'i>
     }
 }
 
-// The text shows the pattern as the schema has it, if the site has that.
+// The text shows the pattern as the schema has it, if the site holds it.
 fn failure_text(
     alloc: Global,
     reason: Reason,
@@ -417,7 +417,8 @@ fn failure_text(
     reason_text(alloc, reason, shown)
 }
 
-// The error's place is the one that the site's pointer leads to, and its instance is the one there.
+// The error's place is the one that the pointer of the site's place leads to. Its instance is the
+// one found there.
 fn error_at<'i>(
     alloc: Global,
     root: &'i Value,

@@ -12,7 +12,7 @@ use Rattle.schema_reports.specs.declared.reports.ValidationError.{ValidationErro
 use Rattle.unfinished_search.specs.declared.search.Outcomes.{Outcomes}
 use Rattle.unfinished_search.specs.declared.search.Outcomes.TheVariants as outcomes
 
--- a step of a search, by a run that returns what it remembers and its result
+-- a step of a search whose run returns what it remembers and its result
 abbrev pub by_run : {S X M T E : Type 0} → (S → X → Result (M × T) E → S → Type 0) → S → X → M → T → S → Type 0
 by_run Step start given remembered gives end = Step start given (Ok (remembered, gives)) end
 
@@ -24,12 +24,13 @@ module _ {S T : Type 0} (Step : S → Remembered → Remembered → T → S → 
   AreOutcomes end (outcomes.Assumed results failure) = (tree : Tree T) × Made Step first start limit end tree failure × Whole Step first start limit tree × (results.items ≡ results_of tree)
   AreOutcomes end (outcomes.Undecided failure) = (tree : Tree T) × Made Step first start limit end tree failure × Cut Step first start limit tree
 
--- all results are yes; a search that was cut short says no
+-- whether all results are `true`; `false` if the search was cut short
 abbrev pub is_yes : Outcomes Bool → Bool
 is_yes (outcomes.Assumed results failure) = list_all (λ b. b) results.items
 is_yes (outcomes.Undecided failure) = false
 
--- the shared errors or one failure; one failure if the search was cut short
+-- the shared errors, or the failure as the only error; always the failure if the search was cut
+-- short
 abbrev pub AreErrors : Data → Outcomes (Vec ValidationError) → List ValidationError → Type 0
 AreErrors root (outcomes.Assumed results failure) answer = AreShared root failure (map (λ (r : Vec ValidationError). r.items) results.items) answer
 AreErrors root (outcomes.Undecided failure) answer = OneError root failure answer

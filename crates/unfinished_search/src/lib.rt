@@ -1,6 +1,7 @@
 //! The search over the outcomes of matches that the matcher could not finish.
 //!
-//! `unfinished_matches` has what a run meets and assumes. Some of it is re-exported here.
+//! The crate `unfinished_matches` defines the matches that a run meets and the outcomes that it
+//! assumes. Some of its items are re-exported here.
 #![tactic(auto)]
 
 mod keyed;

@@ -122,10 +122,11 @@ fn run_from<
     run(start)
 }
 
-// Processes what a run returned that assumed these outcomes.
+// Processes the return value of a run that assumed these outcomes.
 //
-// Its sites locate the failure. If it met a match that it did not assume, then the two lists that
-// also assume an outcome of that match are pushed; otherwise its result is one of the search.
+// The sites of the run locate the failure. If the run met a match that it did not assume, then the
+// two lists that also assume an outcome of that match are pushed; otherwise the result of the run
+// is one of the search's results.
 fn take<'i, T: Drop>(
     alloc: Global,
     outcomes: &AssumedOutcomes,
@@ -157,7 +158,7 @@ fn take<'i, T: Drop>(
     }
 }
 
-/// Makes the runs that unfinished matches call for, but at most `run_limit` runs.
+/// Makes the runs that unfinished matches require, but at most `run_limit` runs.
 ///
 /// The limit includes the first run, which has been made and has met such a match, and holds also
 /// if a run fails. If the result is `Assumed`, then `run` was called for these runs only, and not

@@ -1,4 +1,4 @@
-//! What the results of a search say together.
+//! Combines the results of a search into one verdict, or into one list of errors.
 ghost use Rattle.std.specs.Prelude.{◌≡◌, ◌++◌, ◌∷◌, [], IfOk, filter, map, option_map, OnOk};
 ghost use Rattle.std.specs.List.{list_all};
 ghost use Rattle.unfinished_search.specs.Outcomes.{AreErrors, is_yes};
@@ -71,7 +71,7 @@ fn keep_shared<'i>(
     Ok(())
 }
 
-// Returns those of the errors whose key each of the results has, in order.
+// Returns, in order, the errors whose key occurs in each of the results.
 fn kept<'i>(
     alloc: Global,
     errors: Vec<ValidationError<'i>>,
@@ -160,7 +160,7 @@ fn shared_or_failure<'i>(
 
 /// Returns the errors that every result has, in the order of the last result.
 ///
-/// Returns the failure alone if there are none although some result has an error, or if there were
+/// Returns the failure alone if no error is shared although some result has one, or if there were
 /// too many combinations.
 pub fn errors<'i>(
     alloc: Global,

@@ -1,7 +1,7 @@
-//! What a call returns that searches over the outcomes of unfinished matches.
+//! The return values of the calls that search over the outcomes of unfinished matches.
 //!
-//! Its answer is what the sense says under every combination of outcomes, if the sense's runs are
-//! those of the search.
+//! If the runs of the search are those of a sense, then the answer is what the sense says under
+//! every combination of outcomes.
 ghost use Rattle.std.specs.Prelude.{Bool, IfOk, IsSome, true, ◌↔◌, ◌≡◌, ◌≤◌, OnOk};
 ghost use Rattle.serde_json.specs.View.{view};
 ghost use Rattle.theory_definitions.specs.Cover.{Call, Decides, Sense, validate};
@@ -24,12 +24,12 @@ use serde_json::Value;
 use std::alloc::Global;
 use unfinished_matches::assumptions::MatchAssumptions;
 
-/// Returns whether the instance is valid however the unfinished matches come out.
+/// Returns whether the instance is valid under all outcomes of the unfinished matches.
 ///
 /// Also returns `false` if the call cannot decide within `run_limit` runs. The limit includes the
 /// first run, which has been made and has met an unfinished match, and holds also if a run fails.
-/// The function makes as many runs as the call does for the sense that these runs belong to, and
-/// leaves `run` as they do, one after another.
+/// The function makes as many runs as the call does for the sense that these runs belong to, one
+/// after another, and leaves `run` in the state after the last one.
 ///
 /// # Errors
 ///
@@ -58,13 +58,13 @@ pub fn validity_under_each<
     Ok(validity(assume_each_outcome(alloc, run, first, run_limit)?))
 }
 
-/// Returns the errors that hold however the unfinished matches come out.
+/// Returns the errors that hold under all outcomes of the unfinished matches.
 ///
 /// Returns one failure if there is no such error although the instance is not always valid, or if
 /// the call cannot decide within `run_limit` runs. The limit includes the first run, which has been
 /// made and has met an unfinished match, and holds also if a run fails. The function makes as many
-/// runs as the call does for the sense that these runs belong to, and leaves `run` as they do, one
-/// after another.
+/// runs as the call does for the sense that these runs belong to, one after another, and leaves
+/// `run` in the state after the last one.
 ///
 /// # Errors
 ///
