@@ -21,7 +21,7 @@ use Rattle.keyword_authoring.specs.OwnWays.{spoken_way}
 abbrev pub own_fault : Bool → Text → String Global → spec.Fault
 own_fault texts name text = spec.own (plain name (spoken texts (string_bytes text)))
 
--- the old answer becomes this
+-- the new answer is this function of the old one
 abbrev pub Becomes : Answer → (Bool → spec.Answer → spec.Answer) → Answer → Type 0
 Becomes old f new = (texts : Bool) → answer_of texts new ≡ f texts (answer_of texts old)
 
@@ -29,11 +29,11 @@ Becomes old f new = (texts : Bool) → answer_of texts new ≡ f texts (answer_o
 abbrev pub Refuses : Answer → Answer → Type 0
 Refuses old new = (texts : Bool) → answer_of texts new ≡ refused (answer_of texts old)
 
--- one error of the keyword's own is noted
+-- an error of the keyword itself is added
 abbrev pub Notes : Mode → Text → String Global → Answer → Answer → Type 0
 Notes mode name text old new = (texts : Bool) → answer_of texts new ≡ noted_one mode (answer_of texts old) (own_fault texts name text)
 
--- the reply of a child is taken over
+-- the reply of a child is added
 abbrev pub Takes : Reply → Answer → Answer → Type 0
 Takes reply old new = (texts : Bool) → answer_of texts new ≡ taken (answer_of texts old) (reply_of texts reply)
 
@@ -43,11 +43,11 @@ KeepsUnit node old new = (texts : Bool) → answer_of texts new ≡ in_evaluatio
 
 -- ---- texts are covered only if neither the keyword nor the instance holds a fraction
 
--- this holds if the instance holds no fraction
+-- a fact about the instance, if it holds no fraction
 abbrev pub IfNoFraction : Instance → (Subject → Type 0) → Type 0
 IfNoFraction instance Holds = subject_has_float (subject_of instance) ≡ false → Holds (subject_of instance)
 
--- the errors that a keyword of this kind reports at once are noted
+-- the errors that a keyword of this kind reports at once are added
 abbrev pub TellsAtOnce : {M : Type 0} → (M → Bool) → (M → Subject → Way) → M → Instance → Mode → Answer → Answer → Type 0
 TellsAtOnce is_whole ways m instance mode old new = (texts : Bool) → Tells texts (is_whole m) (subject_of instance)
     → answer_of texts new ≡ told_at_once (spoken_way texts (ways m (subject_of instance))) mode (answer_of texts old)
@@ -56,8 +56,8 @@ TellsAtOnce is_whole ways m instance mode old new = (texts : Bool) → Tells tex
 abbrev pub IfTold : Bool → Instance → (Bool → Subject → Type 0) → Type 0
 IfTold whole instance Holds = (texts : Bool) → Tells texts whole (subject_of instance) → Holds texts (subject_of instance)
 
--- the old answer becomes this, if texts are covered only when neither the keyword nor the instance
--- holds a fraction
+-- the new answer is this function of the old one, if texts are covered only when neither the
+-- keyword nor the instance holds a fraction
 abbrev pub BecomesTold : Bool → Instance → (Bool → Subject → spec.Answer → spec.Answer) → Answer → Answer → Type 0
 BecomesTold whole instance f old new = (texts : Bool) → Tells texts whole (subject_of instance)
     → answer_of texts new ≡ f texts (subject_of instance) (answer_of texts old)

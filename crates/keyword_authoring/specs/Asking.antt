@@ -12,7 +12,7 @@ abbrev pub nth_at : List Question → Option ℕ → Option Question
 nth_at qs None = None
 nth_at qs (Some i) = nth i qs
 
--- the stage of a run that asks it
+-- the stage of a run that asks the question at the position, or has ended if there is none
 abbrev pub stage_of : List Question → Option ℕ → Stage
 stage_of qs None = Ended
 stage_of qs (Some i) = stage_at i (nth i qs)

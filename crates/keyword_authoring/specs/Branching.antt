@@ -4,10 +4,10 @@ use Rattle.theory_definitions.specs.Keywords.{Question}
 use Rattle.keyword_authoring.specs.Items.{child_here}
 use Rattle.keyword_authoring.specs.Ways.{Way, branches, chosen}
 
--- the first child is asked, and then the child of the branch that follows, if there is one
+-- the first child is asked, and then the child of the branch that its verdict selects, if any
 abbrev pub branches_here : Option ℕ → Option ℕ → Way
 branches_here accepted refused = branches (child_here 0) (option_map child_here accepted) (option_map child_here refused)
 
--- the question of the branch that a verdict leads to
+-- the question of the branch that a verdict selects
 abbrev pub chosen_here : Bool → Option ℕ → Option ℕ → Option Question
 chosen_here accepts accepted refused = chosen accepts (option_map child_here accepted) (option_map child_here refused)

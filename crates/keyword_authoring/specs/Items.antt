@@ -1,4 +1,4 @@
--- The items of an instance that is a list, and questions with consecutive numbers.
+-- The items of an instance that is an array, and questions with consecutive numbers.
 use Rattle.std.specs.Prelude.{Bool, List, None, Option, Some, [], false, is_some, suc, zero, ℕ, ◌+◌, ◌∷◌}
 use Rattle.serde_json.specs.Data.{Items, item, no_items}
 use Rattle.serde_json.specs.Find.{as_array}
@@ -17,7 +17,7 @@ abbrev pub is_list : Subject → Bool
 is_list (a_value d) = is_some (as_array d)
 is_list (a_name k) = false
 
--- the number of items, which is 0 if the instance is no list
+-- the number of items, which is 0 if the instance is not an array
 abbrev pub item_count : Subject → ℕ
 item_count (a_value d) = count_in (as_array d)
 item_count (a_name k) = 0

@@ -21,7 +21,7 @@ judging_turn f (Asks i m) = ask (f i) (mode_of m)
 judging_turn f (Judged n) = done
 judging_turn f Over = done
 
--- what the turn makes of an answer
+-- the answer after the turn, by the answer before it
 abbrev pub judging_answer : Tally → Mode → Answer → Judging → Answer
 judging_answer t m a (Asks i n) = a
 judging_answer t m a (Judged n) = noted m t.name a (t.told n)

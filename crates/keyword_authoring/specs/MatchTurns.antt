@@ -17,8 +17,8 @@ match_turn p m Asks = match_text p (match_point m p.pattern)
 match_turn p m (Answered b) = done
 match_turn p m Over = done
 
--- what the turn makes of an answer, with an error of this name and text if the pattern does not
--- match
+-- the answer after the turn, by the answer before it, with an error of this name and text if the
+-- pattern does not match
 abbrev pub match_answer : Text → Text → Mode → Answer → MatchTurn → Answer
 match_answer name text m a Asks = a
 match_answer name text m a (Answered b) = noted m name a (unless b text)

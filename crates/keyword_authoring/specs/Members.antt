@@ -25,7 +25,7 @@ abbrev pub subject_names : Subject → List Text
 subject_names (a_value d) = names_of_any (as_object d)
 subject_names (a_name k) = []
 
--- the number of members, which is 0 if the instance is no object
+-- the number of members, which is 0 if the instance is not an object
 abbrev pub member_count : Subject → ℕ
 member_count s = length (subject_names s)
 

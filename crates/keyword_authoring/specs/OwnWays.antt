@@ -1,6 +1,6 @@
--- Keywords of an author's own. The author says of which kind a keyword is for an instance, with its
--- texts; if texts are not covered, each counts as empty. All that the laws of keywords mention
--- follows from that.
+-- The keywords of an author, who specifies the kind of a keyword for each instance, with its texts.
+-- If texts are not covered, each counts as empty. All that the laws of keywords mention follows
+-- from the kind.
 use Rattle.std.proofs.Common.{◌≡◌, ◌∙◌, ℕ, Bool, List, false, refl, subst, sym, map}
 use Rattle.std.proofs.lemmas.List.Elements.{All-nil}
 use Rattle.theory_definitions.specs.Instance.{Subject, Text}

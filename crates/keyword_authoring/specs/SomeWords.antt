@@ -13,6 +13,6 @@ use Rattle.keyword_authoring.specs.declared.run.Progress.{Progress}
 abbrev pub StandsAtSome : List (Option Question) → Option ℕ → Progress → Progress → Type 0
 StandsAtSome os start run run' = run' ≡ record run { stage = stage_some (some_at os start) }
 
--- the step asks it
+-- the step asks the first question that is present from a number on
 abbrev pub AsksSome : List (Option Question) → Option ℕ → Mode → Step → Type 0
 AsksSome os start mode step = turn_of step ≡ asked mode (question_of (some_at os start))

@@ -6,7 +6,7 @@ abbrev pub with_some : Option Question → List Question → List Question
 with_some None qs = qs
 with_some (Some q) qs = q ∷ qs
 
--- those that are present
+-- the questions that are present
 abbrev pub somes : List (Option Question) → List Question
 somes [] = []
 somes (o ∷ os) = with_some o (somes os)
@@ -17,7 +17,7 @@ first_some i [] = None
 first_some i (None ∷ os) = first_some (i + 1) os
 first_some i (Some q ∷ os) = Some (i, q)
 
--- the first from a number on
+-- the first that is present from a number on, with its number
 abbrev pub some_from : ℕ → List (Option Question) → Option (ℕ × Question)
 some_from i os = first_some i (drop i os)
 

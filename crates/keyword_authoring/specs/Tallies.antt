@@ -15,12 +15,12 @@ pub record Tally : Type 0 where
   pub told : ℕ → List Text
   pub shows : Bool
 
--- one more, if it accepts
+-- one more, if an answer accepts
 abbrev pub counted : Bool → ℕ → ℕ
 counted true n = n + 1
 counted false n = n
 
--- how many accept
+-- the number of accepted questions
 abbrev pub yes_count : (Question → Bool) → List Question → ℕ
 yes_count accepts [] = 0
 yes_count accepts (q ∷ qs) = counted (accepts q) (yes_count accepts qs)
@@ -52,7 +52,7 @@ says_yes (first_of_it e) = false
 says_yes (all_of_it es) = false
 says_yes (unit_of_it u) = (report_of u).valid
 
--- how many accept after a reply, at most `enough`
+-- the number of accepted questions after a reply, at most `enough`
 abbrev pub tallied : ℕ → Reply → ℕ → ℕ
 tallied enough reply n = min enough (counted (says_yes reply) n)
 
@@ -60,11 +60,11 @@ tallied enough reply n = min enough (counted (says_yes reply) n)
 abbrev pub in_evaluation : Bool → Gives → Answer
 in_evaluation v g = record { mode = for_units; verdict = v; errors = []; gives = g }
 
--- with one more unit inside
+-- a result with one more unit inside
 abbrev pub with_inside : Gives → Unit_ → Gives
 with_inside g u = record g { children = g.children ++ u ∷ [] }
 
--- with the unit that a child returned, whatever its verdict
+-- an answer with the unit that a child returned, whatever its verdict
 abbrev pub with_child : Answer → Reply → Answer
 with_child a no_reply = a
 with_child a (truth b) = a

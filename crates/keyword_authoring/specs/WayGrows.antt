@@ -40,7 +40,7 @@ abbrev pub never_falls : (ℕ → Bool) → ℕ → Bool
 never_falls f zero = true
 never_falls f (suc n) = never_falls f n && stays (f n) (f (suc n))
 
--- whether it is monotone whatever its questions are
+-- whether a kind is monotone whatever its questions are
 abbrev pub way_says_monotone : Way → Bool
 way_says_monotone (tells name ts) = true
 way_says_monotone (passes_on qs) = true

@@ -54,6 +54,6 @@ ways_hand_units_on way texts m s matching u = record {
   absorbed = All-same (ByAbsorbed u (way texts m s)) (way_units (way texts m s) matching u).absorbed [] (absorbs_none u (way texts m s) matching) (All-nil (ByAbsorbed u (way texts m s)));
 }
 
--- so do an author's own
+-- the same for an author's keywords
 pub own_hand_units_on : {M : Type 0} (way : M → Subject → Way) (texts : Bool) → EachHandsUnitsOn (own_words way texts) (own_absorbed way)
 own_hand_units_on way = ways_hand_units_on (spoken_ways way)

@@ -1,5 +1,5 @@
--- The functions of a kind agree with each other, depend only on what is asked, and stay at their
--- place.
+-- The functions of a kind agree with each other and depend only on what is asked, and the errors
+-- lie inside the instance.
 use Rattle.std.proofs.Common.{◌≡◌, ◌∙◌, zero, ◌&&◌, ◌++◌, ◌∷◌, [], List, Bool, true, false, refl, ap, ap₂, arith, map}
 use Rattle.std.specs.List.{list_all}
 use Rattle.std.specs.Prelude.{All, Contains, Option, None, Some, flat_map, min, ◌↔◌}

@@ -1,4 +1,4 @@
--- The runs of a kind end as it says: the laws turn by turn.
+-- The runs of a kind end with the answer that the kind defines: the laws turn by turn.
 use Rattle.std.proofs.Common.{◌≡◌, ◌∙◌, ℕ, zero, suc, ◌+◌, ◌<◌, ◌&&◌, ◌⊎◌, ◌++◌, ◌∷◌, [], List, Bool, true, false, Option, Some, None, refl, sym, ap, ap₂, inl, inr, arith, length, drop, map, ◌-◌, append_assoc, append-nil, add-one, min, subst, ◌≤◌}
 use Rattle.std.specs.List.{list_all}
 use Rattle.std.specs.Prelude.{flat_map, if◌then◌else◌, nat_le, not}

@@ -77,6 +77,6 @@ module _ {M : Type 0} (way : Bool → M → Subject → Way) where
   ways_ask_no_units texts = λ m s mode' none.
       turns_for_less texts m s ((words_of way texts).most_turns m s) ((words_of way texts).begin m s mode') no_reply (λ e. none (sym (mode-kept mode') ∙ e))
 
--- nor do an author's own
+-- the same for an author's keywords
 pub own_ask_no_units : {M : Type 0} (way : M → Subject → Way) (texts : Bool) → AsksNoUnits (own_words way texts)
 own_ask_no_units way = ways_ask_no_units (spoken_ways way)

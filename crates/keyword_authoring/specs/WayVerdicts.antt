@@ -66,6 +66,6 @@ module _ {M : Type 0} (way : Bool → M → Subject → Way) where
   pub ways_ask_verdicts : (texts : Bool) → EachAsksVerdicts (words_of way texts)
   ways_ask_verdicts texts = λ m s. turns_for_verdict texts m s ((words_of way texts).most_turns m s) ((words_of way texts).begin m s for_verdict) no_reply refl
 
--- so do an author's own
+-- the same for an author's keywords
 pub own_ask_verdicts : {M : Type 0} (way : M → Subject → Way) (texts : Bool) → EachAsksVerdicts (own_words way texts)
 own_ask_verdicts way = ways_ask_verdicts (spoken_ways way)

@@ -1,6 +1,5 @@
--- What the keywords of a type say of an instance, by their kinds. `way` names the kind, by whether
--- texts are covered (each counts as empty if they are not), by the keyword's shape, and by the
--- instance.
+-- What the keywords of a type say of an instance, by their kinds. The kind is `way` of: whether
+-- texts are covered (each counts as empty if they are not), the keyword's shape, and the instance.
 use Rattle.std.specs.Prelude.{Bool, List, [], false, ℕ}
 use Rattle.theory_definitions.specs.Instance.{Subject, Text}
 use Rattle.theory_definitions.specs.Keywords.{Answer, Keywords}

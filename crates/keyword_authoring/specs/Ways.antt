@@ -1,8 +1,8 @@
 -- The kinds of keywords, by how they evaluate an instance. A keyword reports errors of its own at
 -- once; or it asks questions in order and passes on the answers; or it judges by how many questions
--- are accepted; or it asks one question, and passes on the answer to one of two others, depending
--- on that; or it asks whether a pattern matches a text, and reports an error if it does not. Its
--- runs by turns follow from the kind.
+-- are accepted; or it asks one question, whose verdict selects one of two others, and passes on the
+-- answer to that one; or it asks whether a pattern matches a text, and reports an error if it does
+-- not. Its runs by turns follow from the kind.
 use Rattle.std.specs.List.{list_all}
 use Rattle.std.specs.Prelude.{Bool, List, None, Option, Some, [], false, flat_map, if◌then◌else◌, length, map, not, suc, true, zero, ℕ, ◌++◌, ◌+◌, ◌-◌, ◌∷◌}
 use Rattle.theory_definitions.specs.Instance.{Text}
@@ -27,7 +27,7 @@ pub data Way : Type 0 where
   -- for each number a question or none; those that are present are asked
   passes_some : List (Option Question) → Way
   judges : Tally → List Question → Way
-  -- a question, the one that follows if it is accepted, and the one that follows otherwise
+  -- a question, the one asked next if it is accepted, and the one asked next if it is not
   branches : Question → Option Question → Option Question → Way
   -- a pattern and the text that it must match, and an error with this name and text if it does not
   asks_match : Text → Pair → Text → Way
@@ -45,11 +45,11 @@ at_keyword = record { absorbed = None; path = []; below = [] }
 abbrev pub plain : Text → Text → Own
 plain name text = record { spot = at_keyword; name = name; text = text }
 
--- the same, as a unit has it
+-- the same error, as a unit has it
 abbrev pub described : Text → Text → Described
 described name text = record { name = name; text = text }
 
--- ---- what it means
+-- ---- the meaning of a kind
 
 abbrev pub questions : Way → List Question
 questions (tells name ts) = []
@@ -59,7 +59,7 @@ questions (judges t qs) = qs
 questions (branches q one other) = q ∷ (option_list one ++ option_list other)
 questions (asks_match name a text) = []
 
--- the branch that follows, if there is one
+-- the branch that a verdict selects, if there is one
 abbrev pub branch : Bool → Option Question → Option Question → List Question
 branch true one other = option_list one
 branch false one other = option_list other
@@ -115,12 +115,12 @@ abbrev pub with_first : Answer → List Fault → Fault → Answer
 with_first a [] f = with_errors for_first (f ∷ [])
 with_first a (g ∷ gs) f = a
 
--- a refusal in an evaluation: an error of the keyword's own is in its unit
+-- a refusal in an evaluation, with an error of the keyword itself in its unit
 abbrev pub evaluated : Answer → Fault → Answer
 evaluated a (own o) = in_evaluation false (errored (described o.name o.text) a.gives)
 evaluated a (passed e) = refused a
 
--- with one more fault
+-- an answer with one more fault
 abbrev pub noted_one : Mode → Answer → Fault → Answer
 noted_one mode.Verdict a f = refused a
 noted_one mode.First a f = with_first a a.errors f
@@ -131,11 +131,11 @@ abbrev pub noted : Mode → Text → Answer → List Text → Answer
 noted m name a [] = a
 noted m name a (t ∷ ts) = noted m name (noted_one m a (own (plain name t))) ts
 
--- with the unit of a child; it is a refusal if the unit is invalid
+-- an answer with the unit of a child; it is a refusal if the unit is invalid
 abbrev pub with_unit : Answer → Unit_ → Answer
 with_unit a u = in_evaluation (if (report_of u).valid then a.verdict else false) (record (with_inside a.gives u) { valid = if (report_of u).valid then a.gives.valid else false })
 
--- with what a child answered
+-- an answer with the reply of a child
 abbrev pub taken : Answer → Reply → Answer
 taken a no_reply = a
 taken a (truth true) = a
@@ -189,7 +189,7 @@ abbrev pub stage_some : Option (ℕ × Question) → Stage
 stage_some None = Ended
 stage_some (Some p) = Asked p.0
 
--- the questions that are left of a run that judges
+-- the next question of a run that judges, unless further answers change nothing
 abbrev pub left_to_judge : Tally → Mode → ℕ → Option Question → Option Question
 left_to_judge t m n o = next_if (not (is_settled (wants_units t m) t.enough n)) o
 
@@ -206,7 +206,7 @@ abbrev pub chosen : Bool → Option Question → Option Question → Option Ques
 chosen true one other = one
 chosen false one other = other
 
--- the branch that follows if the first child accepts is asked at 1, the other at 2
+-- the branch for an accepting first child is asked at position 1, the other at position 2
 abbrev pub branch_number : Bool → ℕ
 branch_number true = 1
 branch_number false = 2
@@ -270,7 +270,7 @@ stage_after (asks_match name a text) m (Asked i) reply = Ended
 stage_after (asks_match name a text) m (Counted i n) reply = Ended
 stage_after (asks_match name a text) m Ended reply = Ended
 
--- errors of the keyword's own are reported in the first turn
+-- errors of the keyword itself are reported in the first turn
 abbrev pub at_first : Stage → Answer → Answer → Answer
 at_first Begun told a = told
 at_first (Asked i) told a = a

@@ -98,7 +98,7 @@ fn faults_of<'i>(alloc: Global, answer: Answer<'i>) -> Result<Vec<Fault<'i>>, Ou
     }
 }
 
-/// Returns the answer as a refusal, with an error of the keyword's own in its unit.
+/// Returns the answer as a refusal, with an error of the keyword itself in its unit.
 fn evaluated<'i>(
     alloc: Global,
     keyword: &str,
@@ -116,9 +116,9 @@ fn evaluated<'i>(
     Ok(Answer::Evaluation(found))
 }
 
-/// Makes the answer a refusal without an error.
+/// Turns the answer into a refusal, without adding an error.
 ///
-/// This is what a keyword does that refuses if only the verdict is wanted. Allocates nothing.
+/// A keyword that refuses does this if only the verdict is wanted. Allocates nothing.
 pub fn refuse<'i>(alloc: Global, answer: &mut Answer<'i>)
     ensures refused { Refuses answer.old answer.new }
     ensures borrows { KeepsBorrows answer.old answer.new }
@@ -127,7 +127,7 @@ pub fn refuse<'i>(alloc: Global, answer: &mut Answer<'i>)
     *answer = refused(alloc, before);
 }
 
-/// Notes an error of the keyword's own.
+/// Adds an error of the keyword itself to the answer.
 ///
 /// In a run for the verdict the answer only becomes a refusal. In an evaluation the error goes into
 /// the unit.
@@ -221,7 +221,7 @@ pub fn goes_on(reply: &Reply<'_>) -> bool
     }
 }
 
-/// Returns whether a reply accepts, by its verdict or by its unit's.
+/// Returns whether a reply is an accepting verdict or a valid unit.
 pub fn says_yes(reply: &Reply<'_>) -> bool
     ensures yes { (texts : Bool) → result ≡ says_yes (reply_of texts reply.now) }
 {
@@ -234,9 +234,9 @@ pub fn says_yes(reply: &Reply<'_>) -> bool
     }
 }
 
-/// Takes over what a child answered.
+/// Adds a child's reply to the answer.
 ///
-/// A verdict that does not change the answer moves nothing.
+/// An accepting verdict leaves the answer where it is.
 pub fn take<'i>(alloc: Global, reply: Reply<'i>, answer: &mut Answer<'i>) -> Result<(), OutOfMemory>
     ensures taken { IfOk result (λ _. Takes reply.entry answer.old answer.new) }
     ensures borrows { Borrows reply.entry answer.old answer.new result }
@@ -300,7 +300,7 @@ fn with_reply<'i>(
     }
 }
 
-/// Passes errors on, in order.
+/// Adds errors as passed on, in order.
 fn pass_all<'i>(
     errors: Vec<ValidationError<'i>>,
     faults: &mut Vec<Fault<'i>>,

@@ -1,7 +1,7 @@
 //! Runs that branch.
 //!
-//! Such a run asks whether one child accepts, and passes on what the child of the branch that
-//! follows answers.
+//! Such a run asks whether one child accepts. It then asks the child of the branch that this
+//! verdict selects, and passes on its answer.
 ghost use Rattle.std.specs.Prelude.{◌≡◌};
 ghost use Rattle.schema_traits.specs.KeywordViews.{turn_of};
 ghost use Rattle.keyword_authoring.specs.Ways.{asked, branch_number, stage_at};
@@ -15,7 +15,7 @@ use schema_reports::location::OutOfMemory;
 use schema_traits::keyword::{Answer, Below, Mode, Reply, Step};
 use std::alloc::Global;
 
-/// Asks the branch that a verdict leads to, or ends the run if there is none.
+/// Asks the branch that a verdict selects, or ends the run if there is none.
 fn ask_branch<'s>(
     accepts: bool,
     accepted: Option<usize>,
@@ -40,8 +40,8 @@ fn ask_branch<'s>(
 
 /// Takes a turn of a run that branches.
 ///
-/// The run asks whether its first child accepts, and then the branch that follows, whose answer it
-/// passes on. A branch is the number of a child, if there is one.
+/// The run asks whether its first child accepts. It then asks the branch that this verdict selects,
+/// and passes on its answer. A branch is the number of a child, or `None` if there is no branch.
 #[inline(always)]
 pub fn branch_on<'s, 'i>(
     alloc: Global,

@@ -9,7 +9,7 @@ ghost use Rattle.keyword_authoring.specs.Items.{is_list, item_count};
 use schema_reports::instance::Instance;
 use serde_json::Value;
 
-/// Returns whether the instance is a list.
+/// Returns whether the instance is an array.
 pub fn is_list(instance: Instance<'_>) -> bool
     ensures list { result ≡ is_list (subject_of instance.entry) }
 {
@@ -19,7 +19,7 @@ pub fn is_list(instance: Instance<'_>) -> bool
     }
 }
 
-/// Returns the number of items of the instance, or 0 if it is no list.
+/// Returns the number of items of the instance, or 0 if it is not an array.
 #[tactic(auto, using(crate::proofs::MemberCounts::items_count_length))]
 pub fn item_count(instance: Instance<'_>) -> usize
     ensures count { result ≡ item_count (subject_of instance.entry) }
@@ -33,7 +33,7 @@ pub fn item_count(instance: Instance<'_>) -> usize
     }
 }
 
-/// Returns the items of the instance, if it is a list.
+/// Returns the items of the instance, if it is an array.
 #[inline(always)]
 pub fn items_of<'i>(instance: Instance<'i>) -> Option<&'i [Value]>
     ensures items { IfSome result (λ items. subject_of instance.entry ≡ a_value (array (items_view items.now))) }

@@ -26,7 +26,7 @@ use std::alloc::Global;
 
 /// A keyword that judges: it asks numbered questions, and counts those accepted.
 ///
-/// It accepts an instance depending on that number, or reports one error.
+/// Depending on that number, it accepts the instance or reports one error.
 pub trait JudgeKeyword: Drop {
     /// What is known of the keyword apart from its representation.
     ///
@@ -42,9 +42,9 @@ pub trait JudgeKeyword: Drop {
 
     ghost question: { Self.Shape → ℕ → Question };
 
-    // `enough` accepted questions are all that count: further ones change nothing. The keyword
-    // judges by the number of accepted questions, or by `enough` if there are more. `shows` says
-    // whether it returns the units of its questions.
+    // After `enough` accepted questions, further ones change nothing. The keyword judges by the
+    // number of accepted questions, or by `enough` if there are more. `shows` says whether it
+    // returns the units of its questions.
     ghost enough: { Self.Shape → ℕ };
 
     ghost shows: { Self.Shape → Bool };
@@ -155,7 +155,7 @@ pub fn turn_judge<'s, 'i, J: JudgeKeyword>(
     }
 }
 
-/// A keyword that judges, as the engine takes it.
+/// Turns a `JudgeKeyword` into a keyword of the engine.
 #[derive(Clone, Drop)]
 pub struct Judged<J> {
     pub keyword: J,

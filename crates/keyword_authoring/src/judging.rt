@@ -25,7 +25,7 @@ use std::alloc::Global;
 pub enum Judging {
     /// It asks the question with this number, in this mode.
     Asks(usize, Mode),
-    /// It ends the run, in which this many questions were accepted.
+    /// It ends the run. This many questions were accepted.
     Judged(usize),
     /// The run had ended already.
     Over,
@@ -39,8 +39,8 @@ pub struct Judge {
     /// The number of accepted questions after which further ones change nothing.
     ///
     /// Any number may be given: the keyword judges by the number of accepted questions, or by this
-    /// number if there are more. A keyword that requires at least n accepted questions has enough
-    /// with n, and one that allows at most n with n + 1. The number of its questions is always
+    /// number if there are more. For a keyword that requires at least n accepted questions, n is
+    /// enough; for one that allows at most n, n + 1 is. The number of its questions is always
     /// enough.
     pub enough: usize,
     /// Whether it returns the units of its questions.

@@ -99,7 +99,7 @@ pub fn turn_leaf<'s, 'i, L: LeafKeyword>(
     Ok(Step::Done)
 }
 
-/// A keyword that asks nothing, as the engine takes it.
+/// Turns a `LeafKeyword` into a keyword of the engine.
 #[derive(Clone, Drop)]
 pub struct Leaf<L> {
     pub keyword: L,

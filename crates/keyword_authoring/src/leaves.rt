@@ -1,8 +1,8 @@
 //! Keywords that ask nothing, with one error or several.
 //!
 //! An author says when such a keyword accepts, its name, and the texts of its errors. All laws
-//! follow. `crate::leaf` is the same for a single error, in a type whose texts show no fraction of
-//! the schema.
+//! follow. `crate::leaf` is the same for keywords with a single error, whose text shows no fraction
+//! of the schema.
 ghost use Rattle.std.specs.Prelude.{◌≡◌, Bool, IfOk, IfSome, List, false, length, map, string_bytes, true};
 ghost use Rattle.theory_definitions.specs.Instance.{Subject, Text};
 ghost use Rattle.schema_reports.specs.InstanceViews.{subject_of};
@@ -45,7 +45,7 @@ pub trait TellingKeyword: Drop {
 
     /// Returns whether the keyword accepts an instance, if that needs no memory.
     ///
-    /// Then a verdict takes no run.
+    /// The verdict then takes no run. `None` leaves it to a run, and is always right.
     fn holds_at_once(&self, instance: Instance<'_>) -> Option<bool>
         ensures at_once { IfSome result (λ holds. holds ≡ is_nil (error_texts (shape self.now) (subject_of instance.entry))) };
 
@@ -64,7 +64,7 @@ pub trait TellingKeyword: Drop {
             → IfNoFraction instance.entry (λ s. map string_bytes found.items ≡ error_texts (shape self.now) s)) };
 }
 
-/// A keyword that asks nothing, as the engine takes it.
+/// Turns a `TellingKeyword` into a keyword of the engine.
 #[derive(Clone, Drop)]
 pub struct Telling<T> {
     pub keyword: T,

@@ -9,20 +9,20 @@
 //! An author's type implements one of these traits, and a wrapper turns it into what the engine
 //! takes, with all laws:
 //!
-//! - `PlannedKeyword`, with the wrapper `Planned`, says its plan;
-//! - `LeafKeyword` and `TellingKeyword`, with `Leaf` and `Telling`, say when they accept, and ask
-//!   nothing;
-//! - `JudgeKeyword`, with `Judged`, says when it accepts by how many questions are accepted;
-//! - `OwnKeyword`, with `ByTurns`, says its kind (`specs/Ways`) and takes its turns.
+//! - `PlannedKeyword`, with the wrapper `Planned`, returns a plan for each instance;
+//! - `LeafKeyword` and `TellingKeyword`, with `Leaf` and `Telling`, ask nothing, and say when they
+//!   accept;
+//! - `JudgeKeyword`, with `Judged`, accepts depending on the number of its accepted questions;
+//! - `OwnKeyword`, with `ByTurns`, specifies its kind (`specs/Ways`) and takes its own turns.
 //!
 //! The turns of a leaf and of a judge are `turn_leaf` and `turn_judge`. The turns of the other
 //! kinds are taken by `onward` or `next_number`, by `branch_on` or by `match_on`, whose clauses
-//! name the kind. `note` adds an error of the keyword's own, and `refuse` is enough if only the
+//! name the kind. `note` adds an error of the keyword itself, and `refuse` is enough if only the
 //! verdict is wanted. `specs/Places` has lemmas for questions that are asked at places that exist.
 //!
-//! A type that implements `Validate` itself names the kind of each of its keywords, and what they
-//! say follows from it (`words_of`, in `specs/WayWords`). Their laws are `turn_laws` and
-//! `function_laws` (`specs/WayLaws`). They leave two facts to show: that the questions do not
+//! A type that implements `Validate` itself names the kind of each of its keywords, which
+//! determines their meaning (`words_of`, in `specs/WayWords`). Their laws are `turn_laws` and
+//! `function_laws` (`specs/WayLaws`). Two facts remain to be shown: that the questions do not
 //! depend on texts, and that each is asked at a place that exists.
 #![tactic(auto)]
 

@@ -16,7 +16,7 @@ use schema_traits::keyword::{Mode, Reply, Step};
 pub enum MatchTurn {
     /// It asks whether the pattern matches.
     Asks,
-    /// It ends the run, in which the pattern matched or not.
+    /// It ends the run. The Boolean says whether the pattern matched.
     Answered(bool),
     /// The run had ended already.
     Over,

@@ -40,7 +40,7 @@ pub fn has_member(instance: Instance<'_>, name: &str) -> bool
     }
 }
 
-/// Returns the number of members of the instance, or 0 if it is no object.
+/// Returns the number of members of the instance, or 0 if it is not an object.
 #[tactic(auto, using(crate::proofs::MemberCounts::names_in_length))]
 pub fn member_count(instance: Instance<'_>) -> usize
     ensures count { result ≡ member_count (subject_of instance.entry) }
@@ -54,7 +54,7 @@ pub fn member_count(instance: Instance<'_>) -> usize
     }
 }
 
-/// The name of the member with this number, or an empty text if there is none.
+/// Returns the name of the member with this number, or an empty text if there is none.
 fn name_among(members: &Map<String, Value>, number: usize) -> &str
     ensures name { result.now ≡ slice_index_or (names_in (fields members.now)) number [] }
 {

@@ -1,7 +1,7 @@
 //! Keywords that take their own turns.
 //!
-//! An author says of which kind a keyword is for an instance, and takes its turns. All laws of a
-//! keyword follow.
+//! An author specifies the kind of a keyword for each instance, and implements its turns. All laws
+//! follow.
 ghost use Rattle.std.specs.Prelude.{◌≡◌, Bool};
 ghost use Rattle.theory_definitions.specs.Instance.{Subject};
 ghost use Rattle.keyword_authoring.specs.OwnWays.{AlwaysPresent};
@@ -16,7 +16,7 @@ use schema_reports::location::OutOfMemory;
 use schema_traits::keyword::{Answer, Mode, Reply, Step, Validate};
 use std::alloc::Global;
 
-/// A keyword of an author's own, of some kind for each instance.
+/// A keyword that takes its own turns, and is of some kind for each instance.
 pub trait OwnKeyword: Drop {
     /// What is known of the keyword apart from its representation.
     ///
@@ -66,7 +66,7 @@ pub trait OwnKeyword: Drop {
         ensures says { result ≡ says_monotone (shape self.now) };
 }
 
-/// An author's keyword, as the engine takes it.
+/// Turns an `OwnKeyword` into a keyword of the engine.
 #[derive(Clone, Drop)]
 pub struct ByTurns<K> {
     pub keyword: K,

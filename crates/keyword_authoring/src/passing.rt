@@ -1,6 +1,6 @@
 //! Runs that pass on.
 //!
-//! Such a run asks one question after the other, and passes on what each answers.
+//! Such a run asks one question after the other, and passes on the answers.
 ghost use Rattle.std.specs.Prelude.{◌≡◌, ◌≤◌, ◌+◌, ◌^◌, ◌<◌, ℕ, Bool, List, Option, length, option_map, IfOk};
 ghost use Rattle.theory_definitions.specs.Keywords.{Question};
 ghost use Rattle.schema_traits.specs.KeywordViews.{reply_of, turn_of};
@@ -39,8 +39,8 @@ fn take_asked<'i>(
 
 /// Takes a reply, and returns the position of the next question.
 ///
-/// If not every number has a question, it returns the number from which on the next question is
-/// looked for. There are at most `limit` of them.
+/// If not every number has a question, the result is the number from which to look for the next
+/// question. There are at most `limit` numbers.
 #[inline(always)]
 pub fn onward<'i>(
     alloc: Global,

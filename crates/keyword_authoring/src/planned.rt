@@ -54,7 +54,7 @@ pub enum Plan {
     AtLeast(Asks, usize),
     /// It reports its error unless the number of accepted questions is within bounds.
     ///
-    /// The error's text is made from that number. The run stops asking one past the upper bound, so
+    /// The error's text is made from that number. Counting stops at one past the upper bound, so
     /// that number stands for any above the bound.
     Within(Asks, usize, usize),
 }
@@ -69,8 +69,8 @@ struct Wanted {
 
 /// A keyword whose plan, name and error depend on its shape and on the instance.
 ///
-/// `Planned` turns it into a keyword of the engine. All laws follow, and only the three clauses are
-/// left to prove.
+/// `Planned` turns it into a keyword of the engine. All laws follow, and only the clauses of the
+/// methods and `grows` are left to prove.
 pub trait PlannedKeyword: Drop {
     /// What is known of a keyword apart from its representation.
     ///
@@ -128,7 +128,7 @@ pub trait PlannedKeyword: Drop {
     ghost grows: { PlansGrow planned says_monotone };
 }
 
-/// A keyword of the engine, by its plan.
+/// Turns a `PlannedKeyword` into a keyword of the engine.
 #[derive(Clone, Drop)]
 pub struct Planned<P> {
     pub keyword: P,

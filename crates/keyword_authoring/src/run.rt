@@ -1,4 +1,4 @@
-//! How far a run has come.
+//! The progress of a run.
 ghost use Rattle.std.specs.Prelude.{◌≡◌};
 ghost use Rattle.schema_traits.specs.KeywordViews.{mode_of};
 ghost use Rattle.keyword_authoring.specs.Ways.{way_begin};
@@ -7,7 +7,7 @@ use schema_traits::keyword::Mode;
 
 /// The stage of a run: before its first turn, after a question, or at its end.
 ///
-/// A question is named by its position.
+/// A question is identified by its position.
 #[derive(Clone, Copy)]
 pub enum Stage {
     Begun,
@@ -17,7 +17,7 @@ pub enum Stage {
     Ended,
 }
 
-/// The run of a keyword.
+/// The run of a keyword: its mode and its stage.
 #[derive(Clone, Copy)]
 pub struct Progress {
     pub mode: Mode,

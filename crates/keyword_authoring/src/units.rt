@@ -46,7 +46,7 @@ fn push_unit(own: &mut EvaluationResult, node: EvaluationNode) -> Result<(), Out
     }
 }
 
-/// Returns the answer with a child's unit, which refuses if the unit does.
+/// Returns the answer with a child's unit, as a refusal if the unit is invalid.
 pub fn with_unit<'i>(
     alloc: Global,
     node: EvaluationNode,
@@ -64,7 +64,7 @@ pub fn with_unit<'i>(
     Ok(Answer::Evaluation(found))
 }
 
-/// Returns the answer with a child's unit, and with its own verdict.
+/// Returns the answer with a child's unit. The verdict stays.
 fn with_kept<'i>(
     alloc: Global,
     node: EvaluationNode,

@@ -1,5 +1,6 @@
--- What a keyword of one of two types says of an instance, and how its runs go: as its own type has
--- it. A run of the other type cannot occur: it is done at once, and its answer stays as it is.
+-- What a keyword of one of two types says of an instance, and how its runs go: both are as its own
+-- type defines. A run of the other type cannot occur: it is done at once, and its answer stays as
+-- it is.
 use Rattle.std.specs.Prelude.{Bool, List, ℕ}
 use Rattle.theory_definitions.specs.Instance.{Subject}
 use Rattle.theory_definitions.specs.Reports.{Unit_}

@@ -1,4 +1,4 @@
--- What the makers of two tables request and make that are joined by a route: the same as the makers
+-- What the makers of two tables that are joined by a route request and make: the same as the makers
 -- of the table that the member goes to.
 use Rattle.std.specs.Prelude.{Bool, if◌then◌else◌, ◌||◌}
 use Rattle.serde_json.specs.Data.{Members}
@@ -10,8 +10,8 @@ use Rattle.keyword_joins.specs.declared.both.Both.TheVariants.{First, Second}
 use Rattle.keyword_joins.specs.declared.routed.RoutedTables.{RoutedTables}
 
 module _ {S R T : Type 0} where
-  -- a name of a table's own goes to the first table if that owns it, and a keyword of the standard
-  -- if the route leads there
+  -- a name that is a table's own goes to the first table if that table owns it, and a keyword of
+  -- the standard if the route leads there
   abbrev pub goes_to_first : (S → Text → Bool) → (R → Draft → Members → Text → Bool) → RoutedTables S R T → Bool → Draft → Members → Text → Bool
   goes_to_first owned leads t own draft object name = if own then owned t.first name else leads t.route draft object name
 

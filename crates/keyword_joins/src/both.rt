@@ -5,10 +5,10 @@ use schema_traits::asking::Asking;
 use schema_traits::keyword::{Answer, Mode, Reply, Step, Validate};
 use std::alloc::Global;
 
-/// One of two.
+/// A value of one of two types.
 ///
-/// If both are keyword types, this is the type of the keywords of both. Their shapes and their runs
-/// are joined in the same way.
+/// If both are keyword types, then this is a keyword type too, with the keywords of both. Their
+/// shapes and their runs are joined in the same way.
 #[derive(Clone, Drop)]
 pub enum Both<A, B> {
     First(A),
@@ -58,7 +58,7 @@ impl<A: Validate, B: Validate> Validate for Both<A, B> {
 
     /// Takes a turn.
     ///
-    /// A run of the other type, which cannot occur, is done and stays as it is.
+    /// If the run is of the other type, which cannot occur, it is done and stays as it is.
     fn turn<'s, 'i: 's>(
         &'s self,
         alloc: Global,

@@ -32,9 +32,10 @@ pub trait Route: Drop {
 /// Two tables as one, joined by a route.
 ///
 /// A keyword of the standard goes to the first table if the route says so, and otherwise to the
-/// second. A name that the first table owns is the first table's; any other name that the second
-/// owns is the second's. A name that neither table makes therefore makes nothing. The names that a
-/// keyword absorbs must go to its own table, or the other table makes keywords of them as well.
+/// second. A name that the first table owns goes to the first table; any other name that the second
+/// owns goes to the second. If its table makes no keyword for a name, then nothing is made, even if
+/// the other table has one. The names that a keyword absorbs must go to its own table, or the other
+/// table makes keywords of them as well.
 #[derive(Drop)]
 pub struct RoutedTables<S, R, T> {
     pub first: S,

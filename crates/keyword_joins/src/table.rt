@@ -19,9 +19,9 @@ use std::alloc::Global;
 ///
 /// The names of the list, and those that the first table owns, go to the first table, and all
 /// others to the second. The table that a name goes to decides whether keywords of this name are a
-/// table's own, and what a member makes. A name that neither table makes therefore makes nothing.
-/// The names that a keyword absorbs must go to its own table, or the other table makes keywords of
-/// them as well.
+/// table's own, and what a member makes. If that table makes no keyword for a name, then nothing is
+/// made, even if the other table has one. The names that a keyword absorbs must go to its own
+/// table, or the other table makes keywords of them as well.
 #[derive(Drop)]
 pub struct BothTable<S, T> {
     pub first: S,

@@ -8,7 +8,7 @@ use Rattle.keyword_makers.specs.declared.maker.Ending.{Ending}
 use Rattle.keyword_makers.specs.declared.maker.Ending.TheVariants as ending
 use Rattle.keyword_makers.specs.declared.maker.PathsMaker.{PathsMaker}
 
--- `shape` is what is known of a keyword apart from its representation
+-- how a maker ends; `shape` returns what is known of a keyword apart from its representation
 abbrev pub made_of : {C K : Type 0} → (C → K) → Ending C → Made K
 made_of shape (ending.Keyword k) = a_keyword (shape k) []
 made_of shape ending.Nothing = nothing
@@ -17,6 +17,6 @@ made_of shape (ending.Refused e) = refused true (owned_error_of e)
 abbrev pub waiting_of : {C K : Type 0} → (C → K) → PathsMaker C → Waiting K
 waiting_of shape m = waiting_in m.paths.items m.asked (option_map (made_of shape) m.ends)
 
--- a maker has begun, and follows this script
+-- the maker waits for its first turn, and follows this script
 abbrev pub Begins : {C K : Type 0} → (C → K) → Script K → PathsMaker C → Type 0
 Begins shape script maker = waiting_of shape maker ≡ begun script

@@ -69,7 +69,7 @@ module _ {K : Type 0} (absorbed : K → List Text) (is_whole : K → Bool) where
   list_rightly owner shape name (string t) plain = λ h. refl
   list_rightly owner shape name (object ms) plain = λ h. refl
 
-  -- one of two scripts
+  -- a choice between two such scripts is one too
   pub either_rightly : (owner : Members) (b : Bool) (x y : Script K) → MakesRightly absorbed is_whole owner x → MakesRightly absorbed is_whole owner y
       → MakesRightly absorbed is_whole owner (if b then x else y)
   either_rightly owner true x y p q = p

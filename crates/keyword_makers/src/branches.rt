@@ -42,7 +42,7 @@ fn push_branch(
     }
 }
 
-/// Returns the children of an `if` with this name in an object.
+/// Returns the children of `if` in an object. `name` is the keyword's name.
 pub fn branches_of(
     alloc: Global,
     name: &str,

@@ -28,9 +28,9 @@ pub enum Children<N = &'static str> {
     Childless,
     /// The keyword's value is the only child.
     Itself,
-    /// Each item of the value, which is a list.
+    /// Each item of the value, which is an array.
     Items,
-    /// The value of each member of the value, which is an object, by name.
+    /// Each member of the value, which is an object, in the order of the names.
     Members,
     /// The value of the member with this name is the only child.
     ///

@@ -1,4 +1,4 @@
-//! Keywords whose value is a list of schemas.
+//! Keywords whose value is an array of schemas.
 ghost use Rattle.std.specs.Prelude.{◌≡◌, IfOk};
 ghost use Rattle.serde_json.specs.Find.{as_array};
 ghost use Rattle.serde_json.specs.View.{view};
@@ -13,7 +13,7 @@ use schema_traits::keyword::Validate;
 use serde_json::Value;
 use std::alloc::Global;
 
-/// Returns the number of items of a value, or 0 if it is no list.
+/// Returns the number of items of a value, or 0 if it is not an array.
 #[tactic(auto, using(keyword_authoring::proofs::MemberCounts::items_count_length))]
 pub fn list_length(value: &Value) -> usize
     ensures length { result ≡ count_in (as_array (view value.now)) }
@@ -24,9 +24,9 @@ pub fn list_length(value: &Value) -> usize
     }
 }
 
-/// Returns a maker that requests each schema of the list.
+/// Returns a maker that requests each schema of the array.
 ///
-/// It refuses a value that is no list.
+/// It refuses a value that is not an array.
 pub fn each_schema<K: Validate>(
     alloc: Global,
     name: &str,

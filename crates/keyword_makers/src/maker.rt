@@ -1,4 +1,4 @@
-//! The makers.
+//! Makers that request paths one by one.
 ghost use Rattle.std.specs.Prelude.{◌≡◌, [], Some, IfOk};
 ghost use Rattle.serde_json.specs.View.{items_view};
 ghost use Rattle.theory_definitions.specs.Making.{a_keyword, then_end};
@@ -70,7 +70,7 @@ pub fn only_child<K: Validate>(
     Ok(asks_for(paths, keyword))
 }
 
-/// Returns a maker that requests each item of a keyword's value, which is a list.
+/// Returns a maker that requests each item of a keyword's value, an array.
 pub fn each_item<K: Validate>(
     alloc: Global,
     name: &str,

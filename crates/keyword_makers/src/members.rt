@@ -34,7 +34,7 @@ pub fn names_of(alloc: Global, members: &Map<String, Value>) -> Result<Vec<Strin
 
 /// Returns the paths of the values with these names, below a keyword.
 ///
-/// They share the keyword's name.
+/// The paths share the keyword's name.
 pub fn values_below(
     alloc: Global,
     keyword: &str,
@@ -52,7 +52,7 @@ pub fn values_below(
 
 /// Returns the paths of the values with these names, below a keyword.
 ///
-/// They share the keyword's name, and each shares its own name too.
+/// The paths share the keyword's name, and each of them also shares the name that is given for it.
 pub fn values_of(
     alloc: Global,
     keyword: &str,

@@ -46,7 +46,7 @@ pub(crate) fn step_below(
     Ok(path)
 }
 
-/// Returns the paths of the items of a list below a keyword, whose name they share.
+/// Returns the paths of an array's items below a keyword, whose name they share.
 pub fn items_below(
     alloc: Global,
     keyword: &str,

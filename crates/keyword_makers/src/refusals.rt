@@ -1,4 +1,4 @@
-//! Refusals of values that a keyword does not allow, and others.
+//! Makers that refuse the value of a keyword.
 ghost use Rattle.std.specs.Prelude.{◌∷◌, [], IfOk, option_map, string_bytes, true};
 ghost use Rattle.theory_definitions.specs.Making.{refused, then_end};
 ghost use Rattle.serde_json.specs.View.{view};
