@@ -1,6 +1,6 @@
--- What the bench's meta validators refuse in a document: the first fault, with members in the order
--- of their names, items in order, and a member before what is inside it. If texts are not covered,
--- each text counts as empty. (Core 2020-12, 8.1.1 and 4.3.1; Validation 2020-12, 6.3.2)
+-- What the meta validators for tests refuse in a document: the first fault, with members in the
+-- order of their names, items in order, and a member before the values inside it. If texts are not
+-- covered, each text counts as empty. (Core 2020-12, 8.1.1 and 4.3.1; Validation 2020-12, 6.3.2)
 use Rattle.std.specs.Prelude.{Bool, None, Option, Some, [], bytes_eq, codes, false, if◌then◌else◌, is_some, not, true, ℕ, ◌&&◌, ◌++◌, ◌+◌, ◌≡◌, ◌∷◌}
 use Rattle.serde_json.specs.Data.{Data, Items, Members, array, boolean, item, member, no_items, no_members, null, number, object, string}
 use Rattle.serde_json.specs.Find.{as_array, as_number}
@@ -30,11 +30,11 @@ is_2020_12 draft_2020_12 = true
 is_2020_12 draft_unknown = true
 is_2020_12 _ = false
 
--- a `minLength` that is no number
+-- a `minLength` that is not a number
 abbrev pub is_no_length : Text → Data → Bool
 is_no_length k v = bytes_eq k (codes "minLength") && not (is_some (as_number v))
 
--- an `items` with a list, in 2020-12
+-- an `items` that is an array, in 2020-12
 abbrev pub is_list_of_items : Draft → Text → Data → Bool
 is_list_of_items d k v = bytes_eq k (codes "items") && is_2020_12 d && is_some (as_array v)
 
@@ -65,11 +65,11 @@ abbrev mutual
   fault_in_members texts d place (member k v ms) = earlier (member_fault texts d (place ++ to_member k ∷ []) k v)
       (earlier (fault_in texts d (place ++ to_member k ∷ []) v) (fault_in_members texts d place ms))
 
--- whatever the draft and the place, there is no fault inside a value; and (below) none of a member
--- itself
+-- there is no fault inside a value, whatever the draft and the place
 abbrev pub HasNoFaultInside : Data → Type 0
 HasNoFaultInside v = (texts : Bool) (d : Draft) (place : Place) → fault_in texts d place v ≡ None
 
+-- a member itself has no fault, whatever the draft and the place
 abbrev pub HasNoFaultItself : Text → Data → Type 0
 HasNoFaultItself k v = (texts : Bool) (d : Draft) (place : Place) → member_fault texts d place k v ≡ None
 
@@ -81,6 +81,6 @@ is_schema (number n) = false
 is_schema (string t) = false
 is_schema (array ds) = false
 
--- a document that is neither object nor boolean is refused as a whole
+-- a document that is neither an object nor a boolean is refused as a whole
 abbrev pub document_fault : Bool → Draft → Data → Option Error
 document_fault texts d v = if is_schema v then fault_in texts d [] v else Some (mistyped texts [] v schema_types)

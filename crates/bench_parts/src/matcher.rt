@@ -13,7 +13,8 @@ use unfinished_matches::site::{Match, Reason};
 
 /// A matcher that leaves some patterns unfinished.
 ///
-/// It does so whatever the subject. Any other pattern matches if the subject contains it as a text.
+/// Their matches are unfinished for every subject. Any other pattern is taken literally: it matches
+/// a subject that contains it.
 #[derive(Drop)]
 pub struct BenchMatcher {
     unfinished: Vec<String>,

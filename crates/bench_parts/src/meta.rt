@@ -75,7 +75,7 @@ fn is_2020_12(draft: Draft) -> bool
     matches!(draft, Draft::Draft202012 | Draft::Unknown)
 }
 
-/// Returns whether a member is a `minLength` that is no number.
+/// Returns whether a member is a `minLength` that is not a number.
 fn is_no_length(name: &str, member: &Value) -> bool
     ensures no_length { result ≡ is_no_length name.now (view member.now) }
 {

@@ -1,6 +1,6 @@
-//! The place of a value in a schema under the meta check.
+//! The place of a value in a schema that is checked against its meta-schema.
 //!
-//! It allocates nothing until it is needed as an owned place.
+//! It allocates nothing until it is converted into an owned place.
 ghost use Rattle.std.specs.Prelude.{◌≡◌, ◌++◌, ◌∷◌, []};
 ghost use Rattle.schema_reports.specs.InstanceViews.{step_of};
 ghost use Rattle.bench_parts.specs.MetaPlaces.{steps_to};
@@ -10,7 +10,7 @@ use schema_reports::instance::{InstanceStep, Place};
 use schema_reports::location::OutOfMemory;
 use std::alloc::Global;
 
-/// The root, or a step and the place above it.
+/// A place: the root, or the place above it and a step.
 #[derive(Clone, Copy)]
 pub enum MetaPlace<'p, 'v> {
     Root,
@@ -25,7 +25,7 @@ impl<'p, 'v> MetaPlace<'p, 'v> {
         MetaPlace::Below(self, step)
     }
 
-    // Returns the place as an owned one, with capacity for `more` further steps.
+    // Converts the place into an owned one, with capacity for `more` further steps.
     fn with_room(&self, alloc: Global, more: usize) -> Result<Place<'v>, OutOfMemory>
         ensures same { Yields result (steps_to self.now) }
     {
@@ -39,7 +39,7 @@ impl<'p, 'v> MetaPlace<'p, 'v> {
         }
     }
 
-    /// Returns the place as an owned one.
+    /// Converts the place into an owned one.
     pub fn made(&self, alloc: Global) -> Result<Place<'v>, OutOfMemory>
         ensures same { Yields result (steps_to self.now) }
     {

@@ -32,7 +32,7 @@ abbrev pub fault_of : BuildError → Fault
 fault_of build.OutOfMemory = OutOfMemory
 fault_of e = BuildRefused (number_of e)
 
--- there is the right number of arguments, and this holds of them
+-- there is the right number of arguments, and this holds for them
 abbrev pub InWords : List Text → (FourWords → Type 0) → Type 0
 InWords ts P = (w : FourWords) × (words_in ts ≡ Some w) × P w
 

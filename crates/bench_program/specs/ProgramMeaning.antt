@@ -70,7 +70,7 @@ module _ (p : Program BasicKeyword (List Text)) (instance : Data) where
   abbrev pub AnswersFromSomeDepth : Call → Bool → Text → Type 0
   AnswersFromSomeDepth = Answers p.runs (FromSomeDepth shape_of words is_whole bench_matcher p instance) (HasUnits shape_of words is_whole bench_matcher p instance)
 
-  -- both of the answer, if the result is `Ok`
+  -- both facts about the answer of a result, if it is `Ok`
   abbrev pub InEverySense : {E : Type 0} → Call → Result Answer E → Type 0
   InEverySense call result = IfOk result (λ a. AnswersInEverySense call a.accepted (string_bytes a.text))
 

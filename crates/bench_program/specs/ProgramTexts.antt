@@ -27,7 +27,7 @@ errors_text = flat_map error_line
 -- a value as JSON and a line feed; this is the compact text of a value that holds no fraction. The
 -- digits of a fraction are not covered. The text of any value has no space, has its items and
 -- members in order, with members in the byte order of their names, and is read back as the value if
--- that nests no deeper than a reader goes
+-- the value is nested no deeper than a reader allows
 pub record IsJsonLine (d : Data) (text : Text) : Type 0 where
   pub json : Text
   pub ended : text ≡ json ++ 10 ∷ []

@@ -107,7 +107,7 @@ fn tell<E: Write>(err: &mut E, fault: Fault) -> io::Result<()>
     err.flush()
 }
 
-/// Returns a status, unless the output could not be written.
+/// Returns this status, or `WriteFailed` if the output could not be written.
 fn written(writing: io::Result<()>, status: Status) -> Status
     ensures written { OnOk writing (result ≡ status) }
     ensures unwritten { OnErr writing (result ≡ Status.WriteFailed) }

@@ -16,7 +16,7 @@ abbrev pub name : Check → Text
 name IsArray = codes "type"
 name (HasLeast n) = codes "minItems"
 
--- an instance that is no array has enough items
+-- an instance that is not an array counts as having enough items
 abbrev pub holds : Check → Subject → Bool
 holds IsArray s = is_list s
 holds (HasLeast n) s = not (is_list s) || nat_le n (item_count s)

@@ -1,7 +1,7 @@
 -- Which keywords declare that they are monotone: the basic ones as they do by themselves, and each
--- of an array, since its checks ask nothing and it passes on the answers to its questions. Each
--- passes on the units that answer its questions; the units that an array's keyword reports for
--- others have none inside.
+-- one about arrays, since its checks ask nothing and it passes on the answers to its questions.
+-- Each keyword passes on the units that answer its questions; the units that a keyword about arrays
+-- reports for others have none inside.
 use Rattle.std.proofs.Common.{◌≡◌, ◌&&◌, ◌∷◌, [], zero, suc, Bool, arith, false, refl, true}
 use Rattle.std.specs.Prelude.{All, Contains}
 use Rattle.std.proofs.lemmas.List.Elements.{All-cons, All-nil}

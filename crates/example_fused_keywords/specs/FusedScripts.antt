@@ -1,6 +1,6 @@
--- What the makers request and make: the basic keywords as the basic table does. If an object has an
--- `items` that is no list, a `minItems` that is a whole number, and "array" as `type`, then the
--- maker of `items` makes the three in one, and the other two make nothing.
+-- What the makers request and make. The basic keywords are made as by the basic table. If an object
+-- has an `items` that is not an array, a `minItems` that is a whole number, and "array" as `type`,
+-- then the maker of `items` makes the three in one, and the other two make nothing.
 use Rattle.std.specs.Prelude.{Bool, None, Option, Some, [], bytes_eq, codes, false, if◌then◌else◌, is_some, not, option_and_then, true, ℕ, ◌&&◌, ◌||◌, ◌∷◌}
 use Rattle.serde_json.specs.Data.{Data, Members, string}
 use Rattle.serde_json.specs.Find.{as_array, as_number, as_u64, get_member}
@@ -18,7 +18,7 @@ use Rattle.example_fused_keywords.specs.Openings.{absorbs}
 use Rattle.example_fused_keywords.specs.declared.array.ArrayKeyword.{ArrayKeyword}
 use Rattle.example_fused_keywords.specs.declared.array.ArrayKeyword.TheVariants.{ArrayShape, MinItems}
 
--- ---- the basic keywords, as some of all
+-- ---- the basic keywords, as keywords of this table
 
 abbrev pub made_among : {A B : Type 0} → (A → B) → Made A → Made B
 made_among f (a_keyword m names) = a_keyword (f m) names
@@ -69,7 +69,7 @@ is_known draft vocabularies name = is_some (builtin_in draft vocabularies name)
 abbrev pub are_known : Draft → Vocabularies → Bool
 are_known draft vocabularies = is_known draft vocabularies (codes "type") && (is_known draft vocabularies (codes "minItems") && is_known draft vocabularies (codes "items"))
 
--- the limit of the keyword that an object fuses of the three, if it does
+-- the limit of the fused keyword, if the object fuses the three
 abbrev pub fused_limit : Draft → Vocabularies → Members → Option ℕ
 fused_limit draft vocabularies ms =
     if are_known draft vocabularies then limit_of (get_member (codes "type") ms) (get_member (codes "items") ms) (get_member (codes "minItems") ms) else None

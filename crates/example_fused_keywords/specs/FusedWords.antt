@@ -1,6 +1,7 @@
--- What each keyword says of an instance: a basic one the same as by itself, and one of an array
--- that its checks hold and that its child accepts each item that it asks. The `items` that absorbs
--- two others has the units of its items in its own unit, and their units beside it.
+-- What each keyword says of an instance. A basic one says the same as by itself. One about arrays
+-- says that its checks hold, and that its child accepts each item at which it is asked. The `items`
+-- that absorbs two others has the units of its items in its own unit, and the units of the two
+-- others beside it.
 use Rattle.std.specs.List.{list_all}
 use Rattle.std.specs.Prelude.{Bool, List, [], map, ℕ, ◌&&◌, ◌++◌, ◌+◌}
 use Rattle.theory_definitions.specs.Instance.{Subject}
@@ -18,7 +19,7 @@ use Rattle.example_fused_keywords.specs.FusedShape.{FusedShape, of_array, of_ben
 use Rattle.example_fused_keywords.specs.Openings.{checks_hold, count_of, errors, first_gives, opening, questions_of, run_questions}
 use Rattle.example_fused_keywords.specs.declared.array.ArrayKeyword.{ArrayKeyword}
 
--- with the units of questions inside, valid if each of them is
+-- a result with the units of these questions inside, valid only if each of them is
 abbrev pub with_units : Gives → (Question → Unit_) → List Question → Gives
 with_units g u qs = record g { valid = g.valid && list_all (λ q. (report_of (u q)).valid) qs; children = g.children ++ map u qs }
 

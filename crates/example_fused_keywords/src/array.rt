@@ -23,7 +23,7 @@ use schema_reports::location::OutOfMemory;
 use schema_traits::keyword::{Answer, Below, Fault, Found, Mode, Reply, Step};
 use std::alloc::Global;
 
-/// A keyword of an array: some checks, and then perhaps its only child at items.
+/// A keyword about arrays: it makes some checks, and may then ask its only child at items.
 #[derive(Clone, Copy)]
 pub enum ArrayKeyword {
     /// `minItems`, with its limit.
@@ -56,7 +56,7 @@ fn first_of<'i>(alloc: Global, faults: Vec<Fault<'i>>) -> Result<Answer<'i>, Out
 }
 
 impl ArrayKeyword {
-    /// Returns the number of items before those that are asked.
+    /// Returns the number of items before those at which the child is asked.
     fn before(self) -> usize
         ensures before { result ≡ before_of self }
     {
@@ -78,7 +78,7 @@ impl ArrayKeyword {
         }
     }
 
-    /// Returns the number of items that a run in this mode asks.
+    /// Returns the number of items at which a run in this mode asks the child.
     ///
     /// It is 0 if a failed check has ended the run.
     fn asked_count(self, mode: Mode, instance: Instance<'_>) -> usize
@@ -100,7 +100,7 @@ impl ArrayKeyword {
 
     /// Returns the verdict, if a run for the verdict asks at no item.
     ///
-    /// Then the checks alone decide.
+    /// In that case the checks alone decide.
     pub fn holds_at_once(self, instance: Instance<'_>) -> Option<bool>
         ensures asks_none { IfSome result (λ _. asked_count Mode.Verdict self (subject_of instance.entry) ≡ 0) }
         ensures holds { IfSome result (λ valid. checks_hold self (subject_of instance.entry) ≡ valid) }
@@ -162,7 +162,7 @@ impl ArrayKeyword {
         }
     }
 
-    /// Returns what a run in this mode finds by the checks.
+    /// Returns the answer of a run in this mode to the checks alone.
     fn opened<'i>(
         self,
         alloc: Global,

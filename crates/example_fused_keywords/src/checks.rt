@@ -25,11 +25,11 @@ use std::alloc::Global;
 pub enum Check {
     /// The instance is an array: `type` with the value "array".
     IsArray,
-    /// The instance is no array, or has at least this many items: `minItems`.
+    /// The instance is not an array, or has at least this many items: `minItems`.
     HasLeast(u64),
 }
 
-/// Returns what follows the limit in an error's text.
+/// Returns the part of an error's text after the limit.
 fn counted_items(limit: u64) -> &'static str
     ensures counted { result.now ≡ counted_items limit }
 {

@@ -9,14 +9,16 @@ use standard_basics::names::{Names, NamesRun};
 use std::alloc::Global;
 use std::marker::Model;
 
-/// A keyword: a basic one, or one of an array.
+/// A keyword: a basic one, or one about arrays.
 #[derive(Drop)]
 pub enum FusedKeyword {
     Bench(BasicKeyword),
     Array(ArrayKeyword),
 }
 
-/// What is known of a keyword apart from its representation. It holds no value.
+/// What is known of a keyword apart from its representation.
+///
+/// Contracts see a `FusedShape`. The struct itself holds nothing.
 #[derive(Drop)]
 pub struct Shape {}
 

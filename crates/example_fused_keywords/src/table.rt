@@ -35,10 +35,11 @@ use std::alloc::Global;
 #[derive(Drop)]
 pub struct FusedTable {}
 
-/// A maker.
+/// A maker of the table.
 ///
-/// It requests paths, or is the one of the `items` that absorbs two others, before or after it
-/// requests its schema. The latter holds the number of items before its own, and the limit.
+/// `Plain` requests paths. `AsksItems` and `HasItems` are the maker of the `items` that absorbs two
+/// others, before and after it requests its schema. They hold the number of items before its own,
+/// and the limit. `Over` has ended.
 #[derive(Drop)]
 pub enum FusedMaker {
     Plain(PathsMaker<FusedKeyword>),
@@ -47,7 +48,7 @@ pub enum FusedMaker {
     Over,
 }
 
-/// `minItems` by its value.
+/// The table that makes `minItems` from its value.
 #[derive(Drop)]
 struct LeastTable {}
 
@@ -83,7 +84,7 @@ impl MakesByValue<FusedKeyword> for LeastTable {
     ghost right = { λ t. least_rightly };
 }
 
-/// Returns whether a value is the text "array".
+/// Returns whether a value is the string "array".
 fn says_array(value: &Value) -> bool
     ensures says { result ≡ says_array (view value.now) }
 {
@@ -93,14 +94,14 @@ fn says_array(value: &Value) -> bool
     }
 }
 
-/// Returns the limit that a value stands for.
+/// Returns a value as a limit, if it can be one.
 fn least_in(value: &Value) -> Option<u64>
     ensures least { result ≡ least_in (view value.now) }
 {
     value.as_u64()
 }
 
-/// Returns the limit of the fused keyword by the three values.
+/// Returns the limit of the fused keyword, if the three values allow the fusion.
 fn limit_of(type_value: Option<&Value>, items: Option<&Value>, least: Option<&Value>) -> Option<u64>
     ensures limit { result ≡ limit_of (value_read type_value.entry) (value_read items.entry) (value_read least.entry) }
 {
@@ -121,7 +122,7 @@ fn is_known(draft: Draft, vocabularies: &VocabularySet, name: &str) -> bool
     builtin_row(draft, vocabularies, name).is_some()
 }
 
-/// Returns the limit of the keyword that the object fuses of the three, if it does.
+/// Returns the limit of the fused keyword, if the object fuses the three.
 fn fused_limit(
     object: &Map<String, Value>,
     draft: Draft,

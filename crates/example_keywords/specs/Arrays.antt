@@ -16,7 +16,7 @@ use Rattle.keyword_makers.specs.declared.by_value.MemberKeyword.TheVariants.{Key
 use Rattle.example_keywords.specs.declared.arrays.ArrayKeyword.{ArrayKeyword}
 use Rattle.example_keywords.specs.declared.arrays.ArrayKeyword.TheVariants.{Contains, MinItems}
 
--- an instance that is no list is accepted
+-- an instance that is not an array is accepted
 abbrev pub planned : ArrayKeyword → Subject → Plan
 planned (MinItems limit) s = if is_list s then Holds (nat_le limit (item_count s)) else Holds true
 planned Contains s = if is_list s then AtLeast asks.Items 1 else Holds true

@@ -26,7 +26,8 @@ shape_of (Suffix end) = Suffix (string_bytes end)
 shape_of Both = Both
 shape_of (ContainsBetween least most) = ContainsBetween least most
 
--- an instance that is no text is accepted by `x-suffix`
+-- `x-suffix` accepts an instance that is not a text, and `x-contains-between` one that is not an
+-- array
 abbrev pub planned : Shape → Subject → Plan
 planned (Suffix end) s = Holds (unwrap_or (option_map (λ text. ends_with nat_eq text end) (as_text s)) true)
 planned Both s = PassesOn (asks.Children 2)

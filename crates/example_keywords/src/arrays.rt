@@ -1,4 +1,4 @@
-//! An example of keywords of one's own, with their table.
+//! An example of custom keywords, with their table.
 //!
 //! The keywords are `minItems` and `contains`.
 use keyword_authoring::items::{is_list, item_count};
@@ -9,7 +9,7 @@ use schema_reports::location::OutOfMemory;
 use serde_json::Value;
 use std::alloc::Global;
 
-/// A keyword.
+/// One of the two keywords.
 #[derive(Clone, Copy)]
 pub enum ArrayKeyword {
     /// `minItems`, with its limit.
@@ -79,7 +79,7 @@ impl PlannedKeyword for ArrayKeyword {
     ghost grows = { grows };
 }
 
-/// The keywords of a schema, by name and value.
+/// The table that makes these keywords from a member's name and value.
 #[derive(Drop)]
 pub struct ArrayTable {}
 

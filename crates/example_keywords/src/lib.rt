@@ -1,4 +1,4 @@
-//! Examples of keywords of one's own, each with the table that makes it.
+//! Examples of custom keywords, with the tables that make them.
 #![tactic(auto)]
 
 pub mod arrays;

@@ -1,4 +1,4 @@
-//! An example of keywords of one's own, with their table.
+//! An example of custom keywords, with their table.
 //!
 //! The keywords are `x-suffix`, `x-both` and `x-contains-between`.
 ghost use Rattle.std.specs.Prelude.{◌≡◌, option_map};
@@ -15,18 +15,20 @@ use serde_json::Value;
 use std::alloc::Global;
 use std::marker::Model;
 
-/// A keyword.
+/// One of the three keywords. `T` is the type of its text.
 #[derive(Drop)]
 pub enum StringKeyword<T = String> {
     /// `x-suffix`, with the end that a text must have.
     Suffix(T),
-    /// `x-both`, whose value is a list of two schemas.
+    /// `x-both`, whose value is an array of two schemas.
     Both,
     /// `x-contains-between`, with the least and the greatest number of items that fit.
     ContainsBetween(usize, usize),
 }
 
-/// What is known of a `String` apart from its representation. It holds no value.
+/// Takes the place of `String` in the keyword's shape.
+///
+/// Contracts see a text. The struct itself holds nothing.
 #[derive(Drop)]
 pub struct KnownText {}
 
@@ -124,7 +126,7 @@ fn contains_between(value: &Value) -> Option<StringKeyword>
 /// What a member of a schema makes.
 type Made = MemberKeyword<Planned<StringKeyword>>;
 
-/// The keywords of a schema, by name and value.
+/// The table that makes these keywords from a member's name and value.
 #[derive(Drop)]
 pub struct StringTable {}
 

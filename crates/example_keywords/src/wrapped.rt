@@ -1,7 +1,7 @@
 //! Three keywords without a plan, with their table.
 //!
 //! Each uses the wrapper of its trait: `x-no-text` asks nothing, `x-one-of` judges, and `x-all-of`
-//! takes turns of its own.
+//! takes its own turns.
 ghost use Rattle.std.specs.Prelude.{◌≡◌};
 ghost use Rattle.keyword_authoring.specs.Items.{item_count};
 ghost use Rattle.theory_definitions.specs.Instance.{a_value};
@@ -22,7 +22,7 @@ use schema_traits::keyword::{Answer, Below, Mode, Reply, Step};
 use serde_json::Value;
 use std::alloc::Global;
 
-/// `x-no-text`: the instance must be no text.
+/// `x-no-text`: the instance is not a string.
 #[derive(Clone, Copy)]
 pub struct NoText {}
 
@@ -175,7 +175,7 @@ impl OwnKeyword for AllOf {
     }
 }
 
-/// Returns the number of schemas that a value lists.
+/// Returns the number of schemas in an array, or 0 if the value is not an array.
 fn schemas_in(value: &Value) -> usize
     ensures count { result ≡ item_count (a_value (view value.now)) }
 {

@@ -52,7 +52,7 @@ impl Answer {
 
 /// Adds the line of an error.
 ///
-/// It has instance path, schema path, evaluation path and text, separated by tabs.
+/// The line has the instance path, schema path, evaluation path and text, separated by tabs.
 fn push_error(text: &mut String, alloc: Global, error: &ValidationError) -> Result<(), OutOfMemory>
     ensures line { IfOk result (λ _. string_bytes text.new ≡ string_bytes text.old ++ error_line (error_of true error.now)) }
 {
@@ -66,7 +66,7 @@ fn push_error(text: &mut String, alloc: Global, error: &ValidationError) -> Resu
     text.push_str("\n")
 }
 
-/// The verdict of an instance, as `true` or `false`.
+/// The text is `true` or `false`.
 fn verdict(
     alloc: Global,
     validator: &Validator<BasicKeyword, BenchMatcher>,
@@ -136,7 +136,7 @@ fn errors(
     Ok(Answer { accepted, text })
 }
 
-/// The text is the list of the instance's evaluation.
+/// The text is the list output of the instance's evaluation.
 fn evaluation(
     alloc: Global,
     validator: &Validator<BasicKeyword, BenchMatcher>,
@@ -152,7 +152,7 @@ fn evaluation(
     Ok(Answer { accepted, text })
 }
 
-/// Returns the list of an evaluation as JSON on one line, with a line feed.
+/// Returns the list output of an evaluation as JSON on one line, with a line feed.
 fn list_line(alloc: Global, evaluation: &Evaluation) -> Result<String, OutOfMemory>
     ensures line { IfOk result (λ text. IsJsonLine (output_list (unit_of true evaluation.now)) (string_bytes text)) }
 {
@@ -163,7 +163,7 @@ fn list_line(alloc: Global, evaluation: &Evaluation) -> Result<String, OutOfMemo
 
 /// Returns the answer of a call of the validator about an instance.
 ///
-/// It visits any number of nodes, whatever limit the validator has.
+/// The call may visit any number of nodes, whatever limit the validator has.
 ///
 /// # Errors
 ///

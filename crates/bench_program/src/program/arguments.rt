@@ -8,7 +8,7 @@ const FIRST_SIZE: usize = 256;
 
 /// Returns the arguments after the program's name, as bytes that need not be UTF-8.
 ///
-/// No clause says which arguments a process is given.
+/// No contract says which arguments a process is given.
 ///
 /// # Errors
 ///
@@ -26,7 +26,7 @@ pub fn given_words<R: Env>(alloc: Global, rt: &R) -> Result<Vec<Vec<u8>>, OutOfM
 
 /// Returns the argument with this number.
 ///
-/// If it does not fit, twice the size is tried next.
+/// If it does not fit into the buffer, one of twice the size is tried next.
 fn word_at<R: Env>(alloc: Global, rt: &R, place: usize) -> Result<Option<Vec<u8>>, OutOfMemory> {
     let mut size = FIRST_SIZE;
     for _ in 0..usize::BITS {

@@ -32,7 +32,7 @@ pub struct Request {
     pub unfinished: Vec<String>,
 }
 
-/// The arguments, by what each of them must be.
+/// The arguments, each by its role.
 #[derive(Drop)]
 pub struct Words<'w> {
     pub mode: &'w [u8],
