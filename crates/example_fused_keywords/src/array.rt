@@ -23,7 +23,9 @@ use schema_reports::location::OutOfMemory;
 use schema_traits::keyword::{Answer, Below, Fault, Found, Mode, Reply, Step};
 use std::alloc::Global;
 
-/// A keyword about arrays: it makes some checks, and may then ask its only child at items.
+/// A keyword about arrays.
+///
+/// It makes some checks, and may then ask its only child at items.
 #[derive(Clone, Copy)]
 pub enum ArrayKeyword {
     /// `minItems`, with its limit.

@@ -175,7 +175,7 @@ impl OwnKeyword for AllOf {
     }
 }
 
-/// Returns the number of schemas in an array, or 0 if the value is not an array.
+/// Returns the number of schemas in a value, or 0 if it is not an array.
 fn schemas_in(value: &Value) -> usize
     ensures count { result ≡ item_count (a_value (view value.now)) }
 {

@@ -13,7 +13,7 @@ use Rattle.keyword_authoring.specs.Ways.{Way, noted, tells, unless, way_begin, w
 use Rattle.keyword_authoring.specs.declared.planned.Plan.{Plan}
 use Rattle.keyword_authoring.specs.declared.planned.Plan.TheVariants.{Holds}
 
--- an answer that says no goes on saying no
+-- an answer that refuses still refuses with more errors
 said_no : (name : Text) (a : Answer) (ts : List Text) → a.verdict ≡ false → (noted mode.Verdict name a ts).verdict ≡ false
 said_no name a [] h = h
 said_no name a (t ∷ ts) h = said_no name _ ts refl
@@ -40,7 +40,7 @@ unless_nil texts false text = refl
 pub leaf_at_once : (texts : Bool) (name : Text) (holds : Bool) (text : Text) → SaysAtOnce (spoken_way texts (leaf_way name holds text)) holds
 leaf_at_once texts name holds text = tells_at_once name (map (spoken texts) (unless holds text)) holds (unless_nil texts holds text)
 
--- an author's own keyword, of such a kind
+-- an author's keyword of such a kind
 pub own_ends : {M : Type 0} (way : M → Subject → Way) (texts : Bool) (m : M) (s : Subject) (valid : Bool)
     → SaysAtOnce (spoken_way texts (way m s)) valid → EndsAtOnce (own_words way texts) m s valid
 own_ends way texts m s valid h = record { asks_nothing = h.asks_nothing; says = h.says }

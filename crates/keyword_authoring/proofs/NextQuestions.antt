@@ -23,7 +23,7 @@ next_if-none : (b : Bool) → next_if b None ≡ None
 next_if-none true = refl
 next_if-none false = refl
 
--- there are no more
+-- there are no more questions
 pub ended_at_limit : (qs : List Question) (i : ℕ) (r : Reply) → length qs ≤ i → IsNext qs (Asked i) r None
 ended_at_limit qs i r h = let none : next_if (goes_on r) (nth (i + 1) qs) ≡ None = ap (next_if (goes_on r)) (nth-past (i + 1) qs (omega arith)) ∙ next_if-none (goes_on r) in
     record { stage_is = λ m. ap (stage_at (i + 1)) none; step_is = λ m. ap (asked m) none }
@@ -52,7 +52,7 @@ pub some_ended_at_limit : (os : List (Option Question)) (i : ℕ) (r : Reply) �
 some_ended_at_limit os i r h = let none : next_some (goes_on r) (some_from (i + 1) os) ≡ None = ap (next_some (goes_on r)) (past_none os i h) ∙ next_some-none (goes_on r) in
     record { stage_is = λ m. ap stage_some none; step_is = λ m. ap (λ o. asked m (question_of o)) none }
 
--- it takes replies as any run that passes on does
+-- the run takes replies as any run that passes on answers does
 same_answer : (os : List (Option Question)) (qs : List Question) (m : Mode) (stage : Stage) (a : Answer) (r : Reply) → answer_after (passes_some os) m stage a r ≡ answer_after (passes_on qs) m stage a r
 same_answer os qs m Begun a r = refl
 same_answer os qs m (Asked i) a r = refl

@@ -65,7 +65,7 @@ plan_says_monotone (PassesOn asks) = true
 plan_says_monotone (AtLeast asks least) = true
 plan_says_monotone (Within asks least most) = false
 
--- this holds of one of two plans if it holds of both
+-- a choice between two plans has this property if both of them have it
 pub either_says_monotone : (b : Bool) (p q : Plan) → plan_says_monotone p ≡ true → plan_says_monotone q ≡ true → plan_says_monotone (if b then p else q) ≡ true
 either_says_monotone true p q one other = one
 either_says_monotone false p q one other = other

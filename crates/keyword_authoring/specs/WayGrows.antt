@@ -35,7 +35,7 @@ abbrev pub stays : Bool → Bool → Bool
 stays true b = b
 stays false b = true
 
--- whether no yes is followed by a no, up to a number
+-- whether no `true` is followed by `false`, up to a number
 abbrev pub never_falls : (ℕ → Bool) → ℕ → Bool
 never_falls f zero = true
 never_falls f (suc n) = never_falls f n && stays (f n) (f (suc n))
@@ -91,7 +91,7 @@ stays_yes f (suc n) x y falls le below h = elim (eq-or-lt_of_le le) [
   ]
 ]
 
--- if it is no below the last, then no yes is followed by a no
+-- if it is `false` at each number below the last, then no `true` is followed by `false`
 stays_where_no : (x y : Bool) → x ≡ false → stays x y ≡ true
 stays_where_no true y h = cc
 stays_where_no false y h = refl
@@ -183,8 +183,8 @@ same_falls f g same (suc n) = ap (λ x. x && stays (f n) (f (suc n))) (same_fall
 
 module _ {M : Type 0} (called : M → Text) (enough : M → ℕ) (shows : M → Bool) (accepts : M → Subject → ℕ → Bool) (error_text : M → Subject → ℕ → Text)
     (question : M → ℕ → Question) (count : M → Subject → ℕ) (says : M → Bool) where
-  -- a keyword that judges is monotone if none of its yeses is followed by a no, up to the number of
-  -- answers that are enough
+  -- a keyword that judges is monotone if no number at which it accepts is followed by one at which
+  -- it refuses, up to `enough`
   pub judges_grow : ((m : M) (s : Subject) → says m ≡ true → never_falls (accepts m s) (enough m) ≡ true)
       → EachGrows (judge_ways called enough shows accepts error_text question count) says
   judges_grow stays_so m s h = way_grows (judge_ways called enough shows accepts error_text question count m s)

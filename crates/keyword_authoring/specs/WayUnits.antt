@@ -1,4 +1,4 @@
--- In each mode that wants no units, a run asks no child for its units.
+-- In each mode other than evaluation, a run asks no child for its units.
 use Rattle.std.proofs.Common.{Bool, None, Option, Some, refl, suc, sym, zero, ℕ, ◌+◌, ◌∙◌, ◌≡◌}
 use Rattle.theory_definitions.specs.Instance.{Subject}
 use Rattle.theory_definitions.specs.Keywords.{Answer, Question, Reply, for_all, for_first, for_units, for_verdict, no_reply}
@@ -16,7 +16,7 @@ use Rattle.keyword_authoring.specs.Ways.{Way, asked, asks_match, branches, chose
 use Rattle.keyword_authoring.specs.OwnWays.{own_words, spoken_ways}
 use Rattle.keyword_authoring.specs.WayWords.{words_of}
 
--- a mode that wants no units
+-- a mode other than evaluation
 abbrev pub WantsNone : Mode → Type 0
 WantsNone mode' = ¬ (mode_of mode' ≡ for_units)
 

@@ -98,7 +98,7 @@ fn faults_of<'i>(alloc: Global, answer: Answer<'i>) -> Result<Vec<Fault<'i>>, Ou
     }
 }
 
-/// Returns the answer as a refusal, with an error of the keyword itself in its unit.
+/// Returns the answer as a refusal, with an error in the keyword's own unit.
 fn evaluated<'i>(
     alloc: Global,
     keyword: &str,

@@ -16,7 +16,7 @@ use schema_reports::location::OutOfMemory;
 use schema_traits::keyword::{Answer, Mode, Reply, Step, Validate};
 use std::alloc::Global;
 
-/// A keyword that takes its own turns, and is of some kind for each instance.
+/// A keyword that takes its own turns. Its kind may depend on the instance.
 pub trait OwnKeyword: Drop {
     /// What is known of the keyword apart from its representation.
     ///

@@ -28,7 +28,7 @@ followed_as f is_self (then_pending purpose free held) = followed_as f is_self f
 followed_as f is_self (then_reserve purpose s) = followed_as f is_self s
 followed_as f is_self (then_end m) = refl
 
--- corresponding keywords absorb the same names, and are whole alike
+-- corresponding keywords absorb the same names, and either both are whole or neither is
 module _ {A B : Type 0} (f : A → B) (absorbed : A → List Text) (absorbed' : B → List Text) (is_whole : A → Bool) (is_whole' : B → Bool)
     (absorb_alike : (m : A) → absorbed m ≡ absorbed' (f m)) (whole_alike : (m : A) → is_whole m ≡ is_whole' (f m)) (object : Members) where
   made_rightly : (m : Made A) → MakesRightly absorbed is_whole object (then_end m) → MakesRightly absorbed' is_whole' object (then_end (made_as f m))

@@ -75,7 +75,7 @@ module _ {K : Type 0} (absorbed : K → List Text) (is_whole : K → Bool) (none
   right_without_values whole object (here.MalformedBeside k) = tt
   right_without_values whole object (here.Refused text) = tt
 
-  -- what is made is whole on this condition
+  -- what is made is whole under this condition
   abbrev pub IsWholeWhere : Type 0 → MadeHere K → Type 0
   IsWholeWhere Where (here.Keyword m c) = Where → is_whole m ≡ true
   IsWholeWhere Where (here.KeywordOver m ks) = Where → is_whole m ≡ true

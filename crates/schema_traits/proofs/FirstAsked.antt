@@ -1,10 +1,10 @@
--- What a call of `next` says, by the question that it returns.
+-- The contract of `next`, by the question that it returns.
 use Rattle.std.proofs.Common.{IfSome, MatchOption, None, Option, Some, [], ap, subst, sym, ◌∙◌, ◌∷◌, ◌≡◌}
 use Rattle.schema_traits.specs.declared.asked.AskedQuestion.{AskedQuestion}
 use Rattle.schema_traits.specs.Questions.{AsksFirst, QuestionsLeft, StandsThere, question_in}
 
--- what it says of the questions that were left, of the one that it returns, and of those that are
--- left afterwards
+-- what the contract says of the questions left before the call, of the one that is returned, and
+-- of those left after it
 abbrev pub Says : QuestionsLeft → Option AskedQuestion → QuestionsLeft → Type 0
 Says q asked now =
     MatchOption asked (q.left ≡ []) (λ a. q.left ≡ question_in a ∷ now.left)

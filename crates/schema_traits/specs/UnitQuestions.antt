@@ -9,7 +9,7 @@ AsksForLess (ask q mode) = ¬ (mode ≡ for_units)
 AsksForLess _ = Unit {0}
 
 module _ {K R : Type 0} (keywords : Keywords K R) (m : K) (s : Subject) where
-  -- none of the next n turns asks for units, whatever is replied
+  -- none of the next n turns asks for units, whatever the replies
   abbrev pub AlwaysAsksForLess : ℕ → R → Reply → Type 0
   AlwaysAsksForLess zero r reply = Unit {0}
   AlwaysAsksForLess (suc n) r reply = AsksForLess (keywords.step m s r reply) × ((next : Reply) → AlwaysAsksForLess n (keywords.turn m s r reply) next)

@@ -55,8 +55,8 @@ pub enum Marked {
 
 /// The location of a match other than the keyword's own.
 ///
-/// `path` leads on from the keyword, or from the keyword `absorbed` that it absorbs; `below` holds
-/// the steps below its place. `pattern` is the pattern as the schema has it.
+/// `path` continues the path of the keyword, or of the keyword `absorbed` that it absorbs; `below`
+/// holds the steps below the keyword's place. `pattern` is the pattern as the schema has it.
 #[derive(Drop)]
 pub struct Spot<'s> {
     pub absorbed: Option<String>,
@@ -86,9 +86,9 @@ pub enum MatchPoint<'s> {
     /// Comes from `Step::Match`, so today from `pattern`, `patternProperties` and
     /// `additionalProperties`.
     AtKeyword(bool),
-    /// At a spot of the keyword's, or one step below it.
+    /// At one of the keyword's spots, or one step below it.
     ///
-    /// The name of the step is one of the keyword's or of the instance's. Comes from
+    /// The name in the step is borrowed from the keyword or from the instance. Comes from
     /// `Step::MatchAt`, which no keyword of the standard makes.
     AtSpot(bool, &'s Spot<'s>, Below<'s>),
 }
@@ -105,7 +105,7 @@ pub enum Step<'s> {
     /// The Boolean says whether evaluation path and place are shown. Made by `pattern`,
     /// `patternProperties` and `additionalProperties`.
     Match(&'s str, &'s str, bool),
-    /// Requests a match of a subject at a spot of the keyword's, or one step below it.
+    /// Requests a match at one of the keyword's spots, or one step below it.
     ///
     /// No keyword of the standard makes it, only tests and custom keywords.
     MatchAt(&'s SpotMatch<'s>, &'s str, Below<'s>),
@@ -137,7 +137,7 @@ pub enum Reply<'i> {
     Unit(Box<EvaluationNode>),
 }
 
-/// An error that the keyword itself reports. The engine completes its paths.
+/// An error of the keyword itself. The engine completes its paths.
 #[derive(Drop)]
 pub struct OwnError<'i> {
     pub absorbed: Option<String>,
@@ -147,7 +147,7 @@ pub struct OwnError<'i> {
     pub text: String,
 }
 
-/// An error that the keyword itself reports, or one of a child that it passes on.
+/// An error of the keyword itself, or one of a child that it passes on.
 ///
 /// A child's error keeps its paths, its instance and its text.
 #[derive(Drop)]
@@ -307,6 +307,6 @@ pub trait Validate: Drop {
     ghost hands_units_on: { (texts : Bool) → EachHandsUnitsOn (words texts) absorbed };
     // Only evaluations request units.
     ghost asks_no_units: { (texts : Bool) → AsksNoUnits (words texts) };
-    // A run for the verdict requests verdicts only, whatever is replied.
+    // A run for the verdict requests verdicts only, whatever the replies.
     ghost asks_verdicts: { (texts : Bool) → EachAsksVerdicts (words texts) };
 }

@@ -12,7 +12,7 @@ use unfinished_matches::site::Match;
 /// A regular expression engine.
 ///
 /// Unless they run out of memory, `is_match` and `is_valid_ecma_regex` are functions of their
-/// arguments. A clone answers alike.
+/// arguments. A clone returns the same answers.
 pub trait Matcher: Clone + Drop {
     ghost matching: { Self → spec.Matcher };
 

@@ -105,7 +105,9 @@ pub trait Resolver {
         self.value(place)
     }
 
-    /// Returns the target of a reference. `dynamic` says that it is a `$dynamicRef`.
+    /// Returns the target of a reference.
+    ///
+    /// `dynamic` says whether it is a `$dynamicRef`.
     fn lookup(
         &self,
         alloc: Global,
@@ -152,7 +154,7 @@ pub trait Resolver {
         self.in_subresource(alloc, state, draft, place)
     }
 
-    /// Returns the URI that a reference stands for.
+    /// Resolves a reference to a URI.
     ///
     /// Its fragment says where in its resource the target is looked up.
     fn resolve_uri(

@@ -18,7 +18,7 @@ use schema_reports::reports::OwnedError;
 use serde_json::{Map, Value};
 use std::alloc::Global;
 
-/// What a maker makes, by name: a keyword of the table's own, or a built-in one.
+/// The name of a keyword that a maker makes: the table's own, or built in.
 #[derive(Clone, Copy)]
 pub enum KeywordOrigin<'s> {
     Own(&'s str),

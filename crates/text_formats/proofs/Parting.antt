@@ -90,7 +90,7 @@ groups_counted may t u front back count before is group =
     before ∙ ap (λ ps. option_map (λ n. count + n) (groups may ps)) (parts_after 58 u front back is)
     ∙ ap (option_map (λ n. count + n)) (groups_cons may front (parts 58 back) (some_part 58 back) group) ∙ one_more count (groups may (parts 58 back))
 
--- a part that is no group makes the whole no groups
+-- if a part is not a group, then the parts together are not groups
 pub groups_refused : (may : Bool) (t u front back : Text) (count : ℕ)
     → groups may (parts 58 t) ≡ option_map (λ n. count + n) (groups may (parts 58 u)) → Some (front, back) ≡ cut 58 u → is_group front ≡ false
     → groups may (parts 58 t) ≡ None

@@ -32,7 +32,9 @@ pub enum Reason {
     Engine,
 }
 
-/// The answer of a matcher: whether the subject matches, or why the match was not finished.
+/// The answer of a matcher.
+///
+/// It says whether the subject matches, or why the match was not finished.
 #[derive(Drop)]
 pub enum Match {
     Finished(bool),
@@ -346,7 +348,10 @@ impl<'i> MatchFailure<'i> {
         &self.reason
     }
 
-    /// Replaces a site without an instance path by the first of these sites for the match.
+    /// Moves the failure to a site with an instance path, if its own has none.
+    ///
+    /// The new site is the first of these for the same match, if there is one. It takes over the
+    /// pattern as the schema has it, unless it has one itself.
     pub fn locate(&mut self, located: Vec<LocatedMatch<'i>>)
         ensures { self.new ≡ located_by self.old located.entry.items }
     {

@@ -1,4 +1,4 @@
-//! Combines the results of a search into one verdict, or into one list of errors.
+//! Combines the results of a search into one verdict or one list of errors.
 ghost use Rattle.std.specs.Prelude.{◌≡◌, ◌++◌, ◌∷◌, [], IfOk, filter, map, option_map, OnOk};
 ghost use Rattle.std.specs.List.{list_all};
 ghost use Rattle.unfinished_search.specs.Outcomes.{AreErrors, is_yes};

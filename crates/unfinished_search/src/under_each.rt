@@ -1,4 +1,4 @@
-//! The return values of the calls that search over the outcomes of unfinished matches.
+//! The answers of calls that search over the outcomes of unfinished matches.
 //!
 //! If the runs of the search are those of a sense, then the answer is what the sense says under
 //! every combination of outcomes.
@@ -24,7 +24,7 @@ use serde_json::Value;
 use std::alloc::Global;
 use unfinished_matches::assumptions::MatchAssumptions;
 
-/// Returns whether the instance is valid under all outcomes of the unfinished matches.
+/// Returns whether the instance is valid under all outcomes.
 ///
 /// Also returns `false` if the call cannot decide within `run_limit` runs. The limit includes the
 /// first run, which has been made and has met an unfinished match, and holds also if a run fails.
@@ -58,7 +58,7 @@ pub fn validity_under_each<
     Ok(validity(assume_each_outcome(alloc, run, first, run_limit)?))
 }
 
-/// Returns the errors that hold under all outcomes of the unfinished matches.
+/// Returns the errors that hold under all outcomes.
 ///
 /// Returns one failure if there is no such error although the instance is not always valid, or if
 /// the call cannot decide within `run_limit` runs. The limit includes the first run, which has been
