@@ -175,7 +175,7 @@ fn fault_in_items<'v>(
     Ok(None)
 }
 
-/// Returns the first error of members or inside them, in the order of their names.
+/// Returns the first error of members or inside them, in the order of names.
 #[cycle(walk)]
 fn fault_in_members<'v>(
     alloc: Global,

@@ -47,7 +47,7 @@ pub enum Status {
 impl Status {
     ghost use Rattle.bench_program.specs.ProgramRuns.{code_of};
 
-    /// Returns the status of the process, from 0 to 5 in the order of the variants.
+    /// Returns the exit status: 0 to 5, in the order of the variants.
     pub fn code(self) -> u8
         ensures code { result ≡ code_of self }
     {

@@ -129,7 +129,7 @@ impl Check {
         Ok(())
     }
 
-    /// Returns the result of the check in an evaluation: valid, or with its error.
+    /// Returns the result of the check in an evaluation.
     pub fn result(
         self,
         alloc: Global,

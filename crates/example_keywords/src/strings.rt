@@ -22,7 +22,7 @@ pub enum StringKeyword<T = String> {
     Suffix(T),
     /// `x-both`, whose value is an array of two schemas.
     Both,
-    /// `x-contains-between`, with the least and the greatest number of items that fit.
+    /// `x-contains-between`, with its bounds on the number of items that fit.
     ContainsBetween(usize, usize),
 }
 

@@ -54,7 +54,7 @@ pub fn member_count(instance: Instance<'_>) -> usize
     }
 }
 
-/// Returns the name of the member with this number, or an empty text if there is none.
+/// Returns the name of the member with this number, or an empty text.
 fn name_among(members: &Map<String, Value>, number: usize) -> &str
     ensures name { result.now ≡ slice_index_or (names_in (fields members.now)) number [] }
 {

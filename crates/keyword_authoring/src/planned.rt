@@ -48,14 +48,15 @@ pub enum Plan {
     Holds(bool),
     /// It passes on the answers to its questions.
     PassesOn(Asks),
-    /// It reports its error unless at least this many of its questions are accepted.
+    /// It reports its error unless at least this many questions are accepted.
     ///
     /// The error's text is made from the number of accepted questions.
     AtLeast(Asks, usize),
-    /// It reports its error unless the number of accepted questions is within bounds.
+    /// It reports its error unless the accepted questions are within bounds.
     ///
-    /// The error's text is made from that number. Counting stops at one past the upper bound, so
-    /// that number stands for any above the bound.
+    /// The bounds are the least and the greatest number of accepted questions. The error's text is
+    /// made from the number of accepted questions, which is counted only up to one past the upper
+    /// bound.
     Within(Asks, usize, usize),
 }
 
@@ -67,7 +68,7 @@ struct Wanted {
     most: Option<usize>,
 }
 
-/// A keyword whose plan, name and error depend on its shape and on the instance.
+/// A keyword whose plan and error depend on its shape and on the instance.
 ///
 /// `Planned` turns it into a keyword of the engine. All laws follow, and only the clauses of the
 /// methods and `grows` are left to prove.

@@ -26,7 +26,7 @@ use std::alloc::Global;
 #[derive(Drop)]
 pub enum ObjectKeyword<K, C = Children, L = Vec<String>, N = &'static str, T = String> {
     Keyword(K, C),
-    /// The children are the values of the members with these names, in this order.
+    /// The children are the values of the members with these names, in order.
     ///
     /// The keyword's value is an object that has them.
     KeywordOver(K, L),

@@ -12,7 +12,7 @@ use crate::location::OutOfMemory;
 use std::alloc::Global;
 use std::mem;
 
-/// The result of an evaluation, with annotations, units and, if invalid, errors.
+/// The result of an evaluation: annotations, units and, if invalid, errors.
 ///
 /// The annotations of an invalid result are reported as dropped.
 #[derive(Drop)]
@@ -61,14 +61,14 @@ impl EvaluationResult {
         EvaluationResult::Valid(None, ChildList::new(alloc))
     }
 
-    /// Returns an invalid result with these errors, without annotations or units.
+    /// Returns an invalid result with these errors, but no annotations or units.
     pub fn invalid_empty(alloc: Global, errors: Vec<ErrorDescription>) -> EvaluationResult
         ensures errors { (texts : Bool) → gives_of texts result ≡ refusing (map (described_of texts) errors.items) }
     {
         EvaluationResult::Invalid(errors, None, ChildList::new(alloc))
     }
 
-    /// Returns a result with these units, which is valid exactly if each of them is.
+    /// Returns a result with these units, valid exactly if all of them are.
     pub fn from_children(alloc: Global, children: ChildList) -> EvaluationResult
         ensures children { (texts : Bool) → gives_of texts result ≡ of_units (map (unit_of texts) children) }
     {
@@ -79,7 +79,7 @@ impl EvaluationResult {
         }
     }
 
-    /// Returns a result with one unit, which is valid exactly if the unit is.
+    /// Returns a result with one unit, valid exactly if the unit is.
     pub fn from_node(alloc: Global, node: EvaluationNode) -> Result<EvaluationResult, OutOfMemory>
         ensures child { IfOk result (λ r. (texts : Bool) → gives_of texts r ≡ of_units (unit_of texts node ∷ [])) }
     {

@@ -32,7 +32,7 @@ pub enum Instance<'i> {
     Name(&'i str),
 }
 
-/// A step from a place to one below it: to a member, an item, or a member's name.
+/// A step down from a place: to a member, an item, or a member's name.
 ///
 /// Names are borrowed from the instance.
 #[derive(Clone, Copy)]
@@ -162,7 +162,7 @@ impl<'i> Model for Place<'i> {
     ghost view = { λ p. map step_of p.steps.items };
 }
 
-/// Returns whether both steps are of the same kind, with the same name or index.
+/// Returns whether both steps have the same kind, and the same name or index.
 pub fn same_step(a: InstanceStep<'_>, b: InstanceStep<'_>) -> bool
     ensures same { result ≡ same_step (step_of a.entry) (step_of b.entry) }
 {

@@ -113,7 +113,7 @@ impl Location {
         })
     }
 
-    /// Returns the pointer of the root, with capacity for a text of this many bytes.
+    /// Returns the pointer of the root, with capacity for this many bytes.
     pub fn with_capacity(alloc: Global, bytes: usize) -> Result<Location, OutOfMemory>
         ensures empty { Yields result [] }
     {

@@ -17,7 +17,7 @@ use std::fmt;
 use std::marker::Model;
 use std::vec::IntoIter;
 
-/// An error: a keyword rejects an instance.
+/// The error of a keyword that rejects an instance.
 ///
 /// The instance is borrowed, and `place` is its place in the whole instance. `schema_path` points
 /// at the keyword in its schema, and `evaluation_path` is the path that led to it, including
@@ -120,7 +120,9 @@ impl<'i> ValidationError<'i> {
         self.keyword.as_str()
     }
 
-    /// Returns the error with an owned copy of its instance. A name becomes a string.
+    /// Returns the error with an owned copy of its instance.
+    ///
+    /// A name becomes a string.
     pub fn to_owned(&self, alloc: Global) -> Result<OwnedError, OutOfMemory>
         ensures owned { Shows owned_error_of result (owned (subject_of self.now.instance) (error_of true self.now)) }
     {

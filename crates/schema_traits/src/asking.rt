@@ -19,13 +19,13 @@ pub enum Asking<'s, 'i> {
     One(usize),
     /// The first child, at each item from this index on: all must be accepted.
     Items(usize, &'i [Value]),
-    /// Each of this many children, at the item with its index: all must be accepted.
+    /// This many children, each at its own item: all must be accepted.
     ///
-    /// Children without such an item are not asked.
+    /// A child's item is the one with its number as index. Children without an item are not asked.
     Listed(usize, &'i [Value]),
     /// Each child, at the member with its name: all must be accepted.
     ///
-    /// Children without such a member are not asked.
+    /// The names are in the order of the children. Children without a member are not asked.
     Members(&'s AscendingNames, &'i Map<String, Value>),
     /// The first child, at the name of each member: all must be accepted.
     Names(&'i Map<String, Value>),

@@ -100,7 +100,7 @@ pub enum Step<'s> {
     ///
     /// Made by every keyword that applies subschemas, such as `allOf`, `items` and `contains`.
     Ask(usize, Below<'s>, Mode),
-    /// Requests a match of a compiled pattern and a subject, at the keyword itself.
+    /// Requests a match of a compiled pattern and a subject at the keyword.
     ///
     /// The Boolean says whether evaluation path and place are shown. Made by `pattern`,
     /// `patternProperties` and `additionalProperties`.
@@ -180,9 +180,9 @@ pub enum Answer<'i> {
 impl<'i> Answer<'i> {
     /// Converts the answer into the result of an evaluation.
     ///
-    /// That holds the results of the keyword's own unit and of the units of the keywords that it
-    /// absorbs. An answer in another mode than evaluation yields its verdict alone. An answer of an
-    /// evaluation is returned as it is, which needs no memory.
+    /// The result covers the keyword's own unit and the units of the keywords that it absorbs. An
+    /// answer of another mode yields its verdict alone. An answer of an evaluation holds the result
+    /// already, so that no memory is needed.
     pub fn into_evaluation(self, alloc: Global) -> Result<Box<Found>, OutOfMemory>
         ensures gives { IfOk result (λ found. (texts : Bool)
             → gives_with texts found.value.own found.value.absorbed.items ≡ (answer_of texts self.entry).gives) }
@@ -235,7 +235,7 @@ pub trait Validate: Drop {
 
     /// Begins a run.
     ///
-    /// Its answer has the run's mode. It starts out as valid, without errors.
+    /// The answer of the run has its mode, and starts out as accepting, without errors.
     fn begin(&self, alloc: Global, instance: Instance, mode: Mode) -> Result<Self::Run, OutOfMemory>
         ensures begins { IfOk result (λ run. (texts : Bool)
             → (words texts).begin (shape self.now) (subject_of instance.entry) (mode_of mode) ≡ (run, fresh (mode_of mode))) };

@@ -21,7 +21,7 @@ use std::alloc::Global;
 pub trait MetaValidators {
     ghost checked: { Self → Bool → drafts.Draft → Data → Option Error };
 
-    /// Returns the error of a schema, or `None` if its draft's meta-schema accepts it.
+    /// Returns the error of a schema, or `None` if its meta-schema accepts it.
     ///
     /// The error's instance is the value at its place in the schema.
     fn check<'v>(

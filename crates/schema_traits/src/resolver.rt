@@ -72,11 +72,13 @@ pub trait Resolver {
 
     ghost resolving: { Self → spec.Resolver Self.Point };
 
-    /// Returns whether there is a document with this URI. The fragment is ignored.
+    /// Returns whether there is a document with this URI.
+    ///
+    /// The fragment is ignored.
     fn contains_resource(&self, uri: &str) -> bool
         ensures found { result ≡ is_some ((resolving self.now).root uri.now) };
 
-    /// Returns the state and the place at which the document with this URI begins.
+    /// Returns the state and the place of the root of the document with this URI.
     fn root(
         &self,
         alloc: Global,
@@ -192,7 +194,7 @@ pub trait Resolver {
     fn detect(&self, draft: Draft, value: &Value) -> Draft
         ensures draft { draft_of result ≡ (resolving self.now).detect (draft_of draft) (view value.now) };
 
-    /// Returns whether some subschema below a place may be read in another draft.
+    /// Returns whether some subschema below a place may have another draft.
     ///
     /// The schema's value was read at that place. The engine asks before it checks a schema: a
     /// resolver that can rule this out overrides the method, and spares a walk through the
@@ -225,7 +227,7 @@ pub trait Resolver {
         ensures places { IfOk result (λ ps. map place_of ps.items
             ≡ (resolving self.now).subresources_of (draft_of draft) (place_of place.now)) };
 
-    /// Returns the subschemas of the schema at a place, in order, with their values.
+    /// Returns the subschemas of the schema at a place with their values, in order.
     ///
     /// The schema's value was read at that place. The engine calls this for each schema that it
     /// checks: a resolver that can find the subschemas in the value overrides it.

@@ -178,7 +178,7 @@ impl SchemaPath {
         }
     }
 
-    /// Returns the path of the document's root, with capacity for this many steps.
+    /// Returns the path of the root, with capacity for this many steps.
     pub fn with_capacity(alloc: Global, steps: usize) -> Result<SchemaPath, OutOfMemory>
         ensures root { Yields result [] }
     {

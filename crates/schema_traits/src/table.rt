@@ -56,7 +56,7 @@ pub enum MakerStep<K> {
     ///
     /// Made by every keyword with subschemas.
     Compile(SchemaPath),
-    /// Requests that the text be compiled as a reference at the keyword's location.
+    /// Requests that the text be compiled as a reference at the keyword.
     ///
     /// No keyword of this repository makes it; it is for custom tables. The compiler itself
     /// compiles `$ref`.

@@ -1,4 +1,4 @@
-//! What a run assumes, and what it remembers of the unfinished matches it meets.
+//! What a run assumes and remembers of the unfinished matches that it meets.
 ghost use Rattle.std.specs.Prelude.{◌≡◌, ◌∷◌, [], IfOk, IfSome, IsTrue, OnErr, OnOk, is_some, map, nat_eq, OnSome};
 ghost use Rattle.schema_reports.specs.Showing.{Yields};
 ghost use Rattle.std.specs.HashMap.{get};
@@ -301,7 +301,7 @@ impl<'i> MatchAssumptions<'i> {
         self.located.contains(pattern, subject)
     }
 
-    /// Returns whether the run met an unfinished match whose outcome is not assumed.
+    /// Returns whether the run met an unfinished match without an assumed outcome.
     pub fn met_unassumed(&self) -> bool
         ensures met { result ≡ is_some self.now.unassumed }
     {

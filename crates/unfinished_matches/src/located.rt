@@ -10,7 +10,9 @@ use std::alloc::Global;
 use std::collections::HashMap;
 use std::marker::Model;
 
-/// Matches at sites, in the order in which they were met. Contracts see the list.
+/// Matches at sites, in the order in which they were met.
+///
+/// Contracts see the list.
 #[derive(Drop)]
 pub struct LocatedMatches<'i> {
     matches: Vec<LocatedMatch<'i>>,

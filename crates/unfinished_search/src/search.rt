@@ -25,7 +25,9 @@ pub enum Outcomes<'i, T> {
         results: Vec<T>,
         failure: MatchFailure<'i>,
     },
-    /// There are more combinations than the search may try. The failure is reported.
+    /// There are more combinations than the search may try.
+    ///
+    /// The failure is reported.
     Undecided(MatchFailure<'i>),
 }
 

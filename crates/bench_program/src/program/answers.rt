@@ -152,7 +152,7 @@ fn evaluation(
     Ok(Answer { accepted, text })
 }
 
-/// Returns the list output of an evaluation as JSON on one line, with a line feed.
+/// Returns the list output of an evaluation as a line of JSON.
 fn list_line(alloc: Global, evaluation: &Evaluation) -> Result<String, OutOfMemory>
     ensures line { IfOk result (λ text. IsJsonLine (output_list (unit_of true evaluation.now)) (string_bytes text)) }
 {

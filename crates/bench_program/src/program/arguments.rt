@@ -6,9 +6,9 @@ use std::env::{Env, FillError};
 /// The size in bytes that is tried first for an argument.
 const FIRST_SIZE: usize = 256;
 
-/// Returns the arguments after the program's name, as bytes that need not be UTF-8.
+/// Returns the arguments after the program's name, as bytes.
 ///
-/// No contract says which arguments a process is given.
+/// They need not be UTF-8. No contract says which arguments a process is given.
 ///
 /// # Errors
 ///

@@ -43,7 +43,7 @@ enum Walk<'i> {
     Listed(ListedWalk<'i>),
 }
 
-/// Iterator over the questions to children at the keyword's own place, or at items.
+/// Iterator over questions to children at the keyword's own place, or at items.
 ///
 /// Contracts see the subject, and the questions that are left.
 #[derive(Drop)]
@@ -67,7 +67,7 @@ impl<'i> Model for CountedQuestions<'i> {
 }
 
 impl<'i> CountedQuestions<'i> {
-    /// Returns the questions to the first `end` children at the keyword's own place.
+    /// Returns the questions to the first `end` children, at the keyword's place.
     ///
     /// Allocates nothing.
     #[inline(always)]
@@ -84,7 +84,7 @@ impl<'i> CountedQuestions<'i> {
         }
     }
 
-    /// Returns the questions to the first child at each item, starting at index `next`.
+    /// Returns the questions to the first child at each item from `next` on.
     ///
     /// Allocates nothing.
     #[inline(always)]
