@@ -1,4 +1,4 @@
--- A matcher that leaves the patterns of a list unfinished, and finds the others as texts.
+-- A matcher that leaves the patterns of a list unfinished, and takes the others literally.
 use Rattle.std.specs.List.{list_any}
 use Rattle.std.specs.Prelude.{Bool, List, [], bytes_eq, codes, false, if◌then◌else◌, true, ◌&&◌, ◌==◌, ◌||◌, ◌∷◌}
 use Rattle.theory_definitions.specs.Instance.{Text}
@@ -9,6 +9,7 @@ begins_with [] xs = true
 begins_with (a ∷ p) [] = false
 begins_with (a ∷ p) (x ∷ xs) = (a == x) && begins_with p xs
 
+-- whether the second text contains the first
 abbrev pub contains_text : Text → Text → Bool
 contains_text p [] = begins_with p []
 contains_text p (x ∷ xs) = begins_with p (x ∷ xs) || contains_text p xs

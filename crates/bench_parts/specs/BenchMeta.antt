@@ -38,10 +38,12 @@ is_no_length k v = bytes_eq k (codes "minLength") && not (is_some (as_number v))
 abbrev pub is_list_of_items : Draft → Text → Data → Bool
 is_list_of_items d k v = bytes_eq k (codes "items") && is_2020_12 d && is_some (as_array v)
 
+-- the fault of a member itself, with this name and value
 abbrev pub member_fault : Bool → Draft → Place → Text → Data → Option Error
 member_fault texts d place k v = if is_no_length k v then Some (mistyped texts place v number_type)
     else (if is_list_of_items d k v then Some (mistyped texts place v schema_types) else None)
 
+-- the first of two faults that is present
 abbrev pub earlier : Option Error → Option Error → Option Error
 earlier None o = o
 earlier (Some e) o = Some e
@@ -73,6 +75,7 @@ HasNoFaultInside v = (texts : Bool) (d : Draft) (place : Place) → fault_in tex
 abbrev pub HasNoFaultItself : Text → Data → Type 0
 HasNoFaultItself k v = (texts : Bool) (d : Draft) (place : Place) → member_fault texts d place k v ≡ None
 
+-- whether a value is an object or a boolean
 abbrev pub is_schema : Data → Bool
 is_schema (object ms) = true
 is_schema (boolean b) = true

@@ -28,11 +28,13 @@ fault_status OutOfMemory = status.OutOfMemory
 abbrev pub UnlessUnwritten : Status → Status → Type 0
 UnlessUnwritten wanted s = (s ≡ wanted) ⊎ (s ≡ status.WriteFailed)
 
+-- the status of a run that has printed an answer
 abbrev pub IsAnswer : Status → Type 0
 IsAnswer status.Accepted = Unit {0}
 IsAnswer status.Refused = Unit {0}
 IsAnswer _ = ⊥
 
+-- the status of a run that has printed why it has no answer
 abbrev pub IsRefusal : Status → Type 0
 IsRefusal status.BuildRefused = Unit {0}
 IsRefusal status.BadWords = Unit {0}

@@ -16,6 +16,7 @@ verdict_text false = codes "false" ++ 10 ∷ []
 abbrev pub error_line : Error → Text
 error_line e = instance_path e ++ 9 ∷ [] ++ e.schema_path ++ 9 ∷ [] ++ e.evaluation_path ++ 9 ∷ [] ++ e.text ++ 10 ∷ []
 
+-- the line of the first error, or `ok`
 abbrev pub first_text : Option Error → Text
 first_text None = codes "ok" ++ 10 ∷ []
 first_text (Some e) = error_line e

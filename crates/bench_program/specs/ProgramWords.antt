@@ -43,6 +43,7 @@ abbrev pub listed : Data → Option (List Text)
 listed (array ds) = texts_of ds
 listed _ = None
 
+-- an argument that is the JSON text of a list of these texts
 abbrev pub IsListOf : List Text → Text → Type 0
 IsListOf ts word = (d : Data) × IsTextOf d word × (listed d ≡ Some ts)
 

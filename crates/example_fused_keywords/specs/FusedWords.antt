@@ -32,18 +32,22 @@ abbrev pub opened : Bool → ArrayKeyword → Subject → NamesRun × Answer →
 opened texts k s r = (r.0, at_first r.0.progress.stage (opening texts r.0.progress.mode k s) r.1)
 
 module _ (texts : Bool) where
+  -- the questions that a keyword may ask
   abbrev asked : FusedShape → Subject → List Question
   asked (of_bench m) s = (bench.words texts).may_ask m s
   asked (of_array k) s = questions_of k s
 
+  -- whether a keyword accepts
   abbrev held : FusedShape → Subject → Matching → (Question → Bool) → Bool
   held (of_bench m) s matches accepts = (bench.words texts).holds m s matches accepts
   held (of_array k) s matches accepts = checks_hold k s && list_all accepts (questions_of k s)
 
+  -- the errors of a keyword
   abbrev faulted : FusedShape → Subject → Matching → Answers → List Fault
   faulted (of_bench m) s matches answers = (bench.words texts).faults m s matches answers
   faulted (of_array k) s matches answers = errors texts k s ++ way_faults (passes_on (questions_of k s)) matches answers
 
+  -- the units of a keyword
   abbrev given : FusedShape → Subject → Matching → (Question → Unit_) → Gives
   given (of_bench m) s matches u = (bench.words texts).units m s matches u
   given (of_array k) s matches u = with_units (first_gives texts k s) u (questions_of k s)

@@ -25,6 +25,7 @@ abbrev pub name : ArrayKeyword → Text
 name (MinItems limit) = codes "minItems"
 name Contains = codes "contains"
 
+-- the text of the error
 abbrev pub told : ArrayKeyword → Subject → ℕ → Text
 told (MinItems limit) s accepted = subject_text s ++ (codes " has less than " ++ (decimal limit ++ codes " items"))
 told Contains s accepted = subject_text s ++ codes " has no item that is valid"

@@ -20,9 +20,11 @@ text_refused = codes "this is a text"
 abbrev pub is_one : ℕ → Bool
 is_one n = n == 1
 
+-- the text of the error of `x-one-of`, by the number of schemas that accept
 abbrev pub count_told : ℕ → Text
 count_told n = if n == 0 then codes "no schema accepts" else codes "more than one schema accepts"
 
+-- `x-all-of` passes on the answers of this many children
 abbrev pub all_of_way : ℕ → Way
 all_of_way n = passes_on (each_from child_here 0 n)
 

@@ -18,6 +18,7 @@ use Rattle.keyword_authoring.specs.WayWords.{any_state, left_at_most, nothing_ab
 abbrev pub spoken_tally : Bool → Tally → Tally
 spoken_tally texts t = record t { told = λ n. map (spoken texts) (t.told n) }
 
+-- a kind whose texts count as empty if they are not covered
 abbrev pub spoken_way : Bool → Way → Way
 spoken_way texts (tells name ts) = tells name (map (spoken texts) ts)
 spoken_way texts (passes_on qs) = passes_on qs
@@ -59,6 +60,7 @@ module _ {M : Type 0} (way : M → Subject → Way) where
   abbrev pub AlwaysPresent : Type 0
   AlwaysPresent = (m : M) (s : Subject) → AsksPresent s (questions (way m s))
 
+  -- what the keywords say of an instance
   abbrev pub own_words : Bool → Keywords M (Progress × Answer)
   own_words = words_of spoken_ways
 

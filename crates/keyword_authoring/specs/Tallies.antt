@@ -7,8 +7,9 @@ use Rattle.theory_definitions.specs.Keywords.{Answer, Gives, Question, Reply, al
 use Rattle.schema_traits.specs.declared.keyword.Mode.{Mode}
 use Rattle.schema_traits.specs.declared.keyword.Mode.TheVariants as mode
 
--- `told` has the errors by how many accept, where `enough` stands for that number or more; if
--- `shows` is true, the questions' units are returned
+-- how a keyword judges: `told` returns the texts of its errors for a number of accepted questions,
+-- where `enough` stands for that number or more; if `shows` is true, the units of its questions are
+-- returned
 pub record Tally : Type 0 where
   pub name : Text
   pub enough : ℕ
@@ -25,6 +26,7 @@ abbrev pub yes_count : (Question → Bool) → List Question → ℕ
 yes_count accepts [] = 0
 yes_count accepts (q ∷ qs) = counted (accepts q) (yes_count accepts qs)
 
+-- the texts of the errors, by the verdicts of the questions
 abbrev pub told_by : Tally → (Question → Bool) → List Question → List Text
 told_by t accepts qs = t.told (min t.enough (yes_count accepts qs))
 
@@ -45,6 +47,7 @@ asked_in false = mode.Verdict
 abbrev pub is_settled : Bool → ℕ → ℕ → Bool
 is_settled units enough n = not units && nat_le enough n
 
+-- whether a reply is an accepting verdict or a valid unit
 abbrev pub says_yes : Reply → Bool
 says_yes no_reply = false
 says_yes (truth b) = b

@@ -51,6 +51,7 @@ described name text = record { name = name; text = text }
 
 -- ---- the meaning of a kind
 
+-- the questions that a keyword of a kind may ask
 abbrev pub questions : Way → List Question
 questions (tells name ts) = []
 questions (passes_on qs) = qs
@@ -64,6 +65,7 @@ abbrev pub branch : Bool → Option Question → Option Question → List Questi
 branch true one other = option_list one
 branch false one other = option_list other
 
+-- the units of questions, if a keyword that judges shows them
 abbrev pub given : Bool → (Question → Unit_) → List Question → List Unit_
 given true unit_at qs = map unit_at qs
 given false unit_at qs = []
@@ -72,6 +74,7 @@ given false unit_at qs = []
 abbrev pub is_matched : Matching → Pair → Bool
 is_matched matching a = matching.matches a.pattern a.subject
 
+-- whether a keyword of a kind accepts, by the verdicts of its questions
 abbrev pub way_holds : Way → Matching → (Question → Bool) → Bool
 way_holds (tells name ts) matching accepts = is_nil ts
 way_holds (passes_on qs) matching accepts = list_all accepts qs
@@ -80,6 +83,7 @@ way_holds (judges t qs) matching accepts = is_nil (told_by t accepts qs)
 way_holds (branches q one other) matching accepts = list_all accepts (branch (accepts q) one other)
 way_holds (asks_match name a text) matching accepts = is_matched matching a
 
+-- the errors of a keyword of a kind, by the answers to its questions
 abbrev pub way_faults : Way → Matching → Answers → List Fault
 way_faults (tells name ts) matching answers = map (λ t. own (plain name t)) ts
 way_faults (passes_on qs) matching answers = flat_map (λ q. map passed (answers q).errors) qs
@@ -88,6 +92,7 @@ way_faults (judges t qs) matching answers = map (λ x. own (plain t.name x)) (to
 way_faults (branches q one other) matching answers = flat_map (λ q. map passed (answers q).errors) (branch (answers q).verdict one other)
 way_faults (asks_match name a text) matching answers = map (λ t. own (plain name t)) (unless (is_matched matching a) text)
 
+-- the unit of a keyword of a kind, by the units of its questions
 abbrev pub way_units : Way → Matching → (Question → Unit_) → Gives
 way_units (tells name ts) matching unit_at = record no_gives { valid = is_nil ts; errors = map (described name) ts }
 way_units (passes_on qs) matching unit_at = record no_gives { valid = list_all (λ q. (report_of (unit_at q)).valid) qs; children = map unit_at qs }
@@ -107,10 +112,11 @@ refused_mode for_all [] = for_verdict
 refused_mode for_all (f ∷ fs) = for_all
 refused_mode for_units fs = for_units
 
+-- an answer as a refusal, without a further error
 abbrev pub refused : Answer → Answer
 refused a = record a { mode = refused_mode a.mode a.errors; verdict = false; gives = record a.gives { valid = false } }
 
--- the first error is kept
+-- an answer with this error as its first, unless it has one already
 abbrev pub with_first : Answer → List Fault → Fault → Answer
 with_first a [] f = with_errors for_first (f ∷ [])
 with_first a (g ∷ gs) f = a

@@ -7,9 +7,11 @@ use Rattle.theory_definitions.specs.Instance.{Place, Text, to_member}
 use Rattle.theory_definitions.specs.Making.{Script, a_keyword}
 use Rattle.keyword_makers.specs.Making.{asks_for}
 
+-- whether a member with this name is present
 abbrev pub has_branch : Text → Members → Bool
 has_branch name ms = is_some (get_member name ms)
 
+-- the path of a branch, if it is present
 abbrev pub branch_places : Bool → Text → List Place
 branch_places true name = (to_member name ∷ []) ∷ []
 branch_places false name = []
@@ -19,10 +21,12 @@ abbrev pub branch_child : Bool → ℕ → Option ℕ
 branch_child true n = Some n
 branch_child false n = None
 
+-- the number of the next child after a branch that may be present
 abbrev pub after_branch : Bool → ℕ → ℕ
 after_branch true n = n + 1
 after_branch false n = n
 
+-- the paths of the children, in order
 abbrev pub if_places : Text → Bool → Bool → List Place
 if_places name has_then has_else = (to_member name ∷ []) ∷ (branch_places has_then (codes "then") ++ branch_places has_else (codes "else"))
 

@@ -37,6 +37,7 @@ abbrev pub malformed_beside : {K : Type 0} → Text → Data → Text → Option
 malformed_beside name d beside None = malformed name d
 malformed_beside name d beside (Some e) = malformed beside e
 
+-- the script of a member with this name and value, by what it makes
 abbrev pub script_here : {K : Type 0} → Members → Text → Data → MadeHere K → Script K
 script_here object name d (here.Keyword m c) = asks_for (children_of c name d) (a_keyword m [])
 script_here object name d (here.KeywordOver m ks) = asks_for (values_below name ks) (a_keyword m [])
@@ -57,6 +58,7 @@ by_object made own name object draft vocabularies formats = script_found made dr
 abbrev pub IsRightKeyword : {K : Type 0} → (K → List Text) → (K → Bool) → Members → K → Type 0
 IsRightKeyword absorbed is_whole object m = ([] ≡ absorbed m) × (members_have_float object ≡ false → is_whole m ≡ true)
 
+-- the same for the keyword that a member makes, if it makes one
 abbrev pub IsRightHere : {K : Type 0} → (K → List Text) → (K → Bool) → Members → MadeHere K → Type 0
 IsRightHere absorbed is_whole object (here.Keyword m c) = IsRightKeyword absorbed is_whole object m
 IsRightHere absorbed is_whole object (here.KeywordOver m ks) = IsRightKeyword absorbed is_whole object m

@@ -51,6 +51,7 @@ children_of children.Members name (object ms) = values_below name (names_of ms)
 children_of children.Members name d = []
 children_of (children.Member k) name d = (to_member name ∷ to_member k ∷ []) ∷ []
 
+-- the script of a member with this name and value, by what it makes
 abbrev pub script_of : {K : Type 0} → Text → Data → MadeMember K → Script K
 script_of name d (member_is.Keyword m c) = asks_for (children_of c name d) (a_keyword m [])
 script_of name d member_is.Nothing = then_end nothing

@@ -14,6 +14,7 @@ abbrev pub asks_for : {K : Type 0} → List Place → Made K → Script K
 asks_for [] m = then_end m
 asks_for (p ∷ ps) m = then_compile p (asks_for ps m)
 
+-- a keyword without children
 abbrev pub makes : {K : Type 0} → K → Script K
 makes m = then_end (a_keyword m [])
 
@@ -34,6 +35,7 @@ each_item name ds m = asks_for (items_from name 0 ds) (a_keyword m [])
 abbrev pub malformed_text : Text → Text
 malformed_text name = codes "\"" ++ name ++ codes "\" has a value of another shape"
 
+-- the error of a malformed value, at the keyword
 abbrev pub malformed_error : Text → Data → OwnedError
 malformed_error name d = record {
   instance = d;
@@ -60,16 +62,17 @@ refused_error name d text = record {
 abbrev pub malformed : {K : Type 0} → Text → Data → Script K
 malformed name d = then_end (refused true (malformed_error name d))
 
+-- a keyword without children, if there is one; otherwise the value is malformed
 abbrev pub makes_if : {K : Type 0} → Text → Data → Option K → Script K
 makes_if name d None = malformed name d
 makes_if name d (Some m) = makes m
 
--- each schema of a list
+-- each schema of an array; any other value is malformed
 abbrev pub each_schema : {K : Type 0} → Text → Data → K → Script K
 each_schema name (array ds) m = each_item name ds m
 each_schema name d m = malformed name d
 
--- each schema of a list, for a keyword that knows how many there are
+-- each schema of an array, for a keyword that depends on their number
 abbrev pub list_script : {K : Type 0} → (ℕ → K) → Text → Data → Script K
 list_script shape name d = each_schema name d (shape (count_in (as_array d)))
 

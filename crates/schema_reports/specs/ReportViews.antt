@@ -12,6 +12,7 @@ use Rattle.theory_definitions.specs.Reports as spec
 use Rattle.schema_reports.specs.declared.reports.ValidationError.{ValidationError}
 use Rattle.schema_reports.specs.declared.reports.OwnedError.{OwnedError}
 
+-- a text, or the empty text if texts are not covered
 abbrev pub spoken : Bool → Text → Text
 spoken texts t = if texts then t else []
 

@@ -103,6 +103,7 @@ abbrev pub fault_of : Bool → Fault → spec.Fault
 fault_of texts (fault.Own e) = spec.own (own_of texts e)
 fault_of texts (fault.Passed e) = spec.passed (error_of texts e)
 
+-- a valid result without units, annotations or errors
 abbrev pub no_gives : spec.Gives
 no_gives = record { valid = true; children = []; annotations = None; errors = []; absorbed = [] }
 

@@ -16,6 +16,7 @@ days_in y m =
     else if (m == 4) || (m == 6) || (m == 9) || (m == 11) then 30
     else 31
 
+-- the month of the year has this day
 abbrev pub is_day : ℕ → ℕ → ℕ → Bool
 is_day y m d = nat_le 1 m && nat_le m 12 && nat_le 1 d && nat_le d (days_in y m)
 

@@ -15,6 +15,7 @@ use Rattle.text_formats.specs.Uuids.{is_uuid}
 use Rattle.text_formats.specs.declared.formats.Format.{Format}
 use Rattle.text_formats.specs.declared.formats.Format.TheVariants.{Date, DateTime, Duration, Email, Hostname, IdnEmail, Ipv4, Ipv6, Iri, IriReference, JsonPointer, RelativeJsonPointer, Time, Uri, UriReference, UriTemplate, Uuid}
 
+-- whether a text has the format
 abbrev pub accepts : Format → Text → Bool
 accepts Date t = is_date t
 accepts DateTime t = is_date_time t

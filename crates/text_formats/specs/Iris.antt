@@ -22,6 +22,7 @@ is_private c = is_between 0xE000 0xF8FF c || is_between 0xF0000 0xFFFFD c || is_
 abbrev pub is_universal_or_ascii : ℕ → Bool
 is_universal_or_ascii c = nat_le c 127 || is_universal c
 
+-- a character of a query, where iprivate is allowed too
 abbrev pub is_of_query : ℕ → Bool
 is_of_query c = is_universal_or_ascii c || is_private c
 

@@ -43,6 +43,7 @@ is_ascii_of Fragment c = is_common c || list_any (λ m. m == c) (codes ":@/?")
 is_ascii_of Literal c = is_literal c
 is_ascii_of Variable c = is_of_variable c
 
+-- a character of a class, or one outside ASCII if `wide` is true
 abbrev pub is_of : Bool → Class → ℕ → Bool
 is_of wide k c = is_ascii_of k c || (wide && nat_le 128 c)
 
@@ -125,6 +126,7 @@ begins_with_colon (c ∷ cs) = c == 58
 abbrev pub path_fits : Bool → Components → Bool
 path_fits wide c = is_made wide Path c.path && (is_some c.scheme || is_some c.authority || not (begins_with_colon c.path))
 
+-- each component of a reference is as the grammar allows
 abbrev pub fit : Bool → Components → Bool
 fit wide c = scheme_fits c.scheme && authority_fits wide c.authority && path_fits wide c && end_fits wide c.query && end_fits wide c.fragment
 

@@ -9,6 +9,7 @@ abbrev pub first_of : List ℕ → ℕ → Option ℕ
 first_of [] h = None
 first_of (x ∷ xs) h = if nat_eq x h then Some zero else option_map (λ n. suc n) (first_of xs h)
 
+-- the function returns the first position of each hash in the list
 abbrev pub IsIndexed : List ℕ → (ℕ → Option ℕ) → Type 0
 IsIndexed hashes first = (h : ℕ) → first h ≡ first_of hashes h
 

@@ -379,7 +379,7 @@ fn reason_text(alloc: Global, reason: Reason, pattern: &str) -> Result<String, O
     }
 }
 
-// If the site is not located, returns the schema path as the evaluation path, and the root.
+// If the site is not located, the evaluation path is the schema path, and the place is the root.
 fn place_or_root<'i>(
     alloc: Global,
     located: Option<(Location, Place<'i>)>,

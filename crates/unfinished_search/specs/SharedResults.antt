@@ -14,9 +14,11 @@ use Rattle.schema_reports.specs.declared.reports.ValidationError.{ValidationErro
 abbrev pub same_key : ValidationError → ValidationError → Bool
 same_key a b = same_error (error_of true a) (error_of true b)
 
+-- whether one of the errors has the same key as this one
 abbrev pub has_key : List ValidationError → ValidationError → Bool
 has_key es e = list_any (same_key e) es
 
+-- whether each of the lists has an error with the same key as this one
 abbrev pub in_each_of : List (List ValidationError) → ValidationError → Bool
 in_each_of others e = list_all (λ es. has_key es e) others
 
@@ -42,6 +44,7 @@ or_none (e ∷ es) empty = Some (e ∷ es)
 or_none [] true = Some []
 or_none [] false = None
 
+-- the answer for one or more results, by the last of them and the others
 abbrev pub OfSome : List (List ValidationError) → Option (List ValidationError) → Type 0
 OfSome results answer =
     (others : List (List ValidationError)) × (last : List ValidationError) × (results ≡ others ++ last ∷ [])
@@ -52,6 +55,7 @@ abbrev pub IsSharedBy : List (List ValidationError) → Option (List ValidationE
 IsSharedBy [] answer = answer ≡ Some []
 IsSharedBy (r ∷ rs) answer = OfSome (r ∷ rs) answer
 
+-- the answer lists the errors that are given, or the failure alone if `None` is given
 abbrev pub OrFailure : Data → Failure → Option (List ValidationError) → List ValidationError → Type 0
 OrFailure root f (Some es) answer = answer ≡ es
 OrFailure root f None answer = OneError root f answer

@@ -24,7 +24,7 @@ use serde_json::Value;
 use std::alloc::Global;
 use unfinished_matches::assumptions::MatchAssumptions;
 
-/// Returns whether the instance is valid under all outcomes.
+/// Returns whether the instance is valid under each combination of outcomes.
 ///
 /// Also returns `false` if the call cannot decide within `run_limit` runs. The limit includes the
 /// first run, which has been made and has met an unfinished match, and holds also if a run fails.
@@ -58,7 +58,7 @@ pub fn validity_under_each<
     Ok(validity(assume_each_outcome(alloc, run, first, run_limit)?))
 }
 
-/// Returns the errors that hold under all outcomes.
+/// Returns the errors that hold under each combination of outcomes.
 ///
 /// Returns one failure if there is no such error although the instance is not always valid, or if
 /// the call cannot decide within `run_limit` runs. The limit includes the first run, which has been
