@@ -10,7 +10,7 @@ use schema_engine::location::OutOfMemory;
 use serde_json::Value;
 use std::alloc::Global;
 
-/// The meta-schemas, and the check by them.
+/// The meta-schemas, and the check against them.
 #[derive(Clone, Copy)]
 pub(crate) struct Harness<'h, 'm> {
     pub documents: &'h MetaDocuments,
@@ -63,7 +63,7 @@ fn refuse(alloc: Global, case: Case<'_>, refused: &BuildError) -> Result<Value, 
     case.fault(alloc, text.as_str())
 }
 
-/// Answers a case with a pattern that is not compiled.
+/// Answers a case with a pattern that cannot be compiled.
 fn refuse_pattern(
     alloc: Global,
     case: Case<'_>,

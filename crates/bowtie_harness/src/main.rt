@@ -1,9 +1,9 @@
-//! The harness for testing implementations of JSON Schema side by side.
+//! The Bowtie harness for testing implementations of JSON Schema side by side.
 //!
-//! It reads commands in JSON, one on a line, and writes a line in JSON for each. `start` asks what
-//! the implementation is, `dialect` sets the draft of schemas that do not name theirs, `run`
-//! validates several instances against a schema, and `stop` ends. For a line that is no command,
-//! the reply says what is wrong with it, and the next line is read.
+//! It reads commands in JSON, one on each line, and writes a line in JSON for each. `start`
+//! requests a description of the implementation, `dialect` sets the draft of schemas that do not
+//! name theirs, `run` validates several instances against a schema, and `stop` ends. If a line is
+//! not a command, the reply says what is wrong with it, and the next line is read.
 #![tactic(auto)]
 
 mod cases;

@@ -5,7 +5,7 @@ use schema_drafts::keywords::Draft;
 use serde_json::Value;
 use std::alloc::{AllocError, Global};
 
-/// A case with a schema, and the number of its command, if it has one.
+/// A case with its schema, and the number of its command if it has one.
 #[derive(Clone, Copy)]
 pub struct Case<'c> {
     pub seq: Option<&'c Value>,
@@ -25,10 +25,10 @@ pub trait Judge {
 
 /// Answers cases.
 pub trait Engine {
-    /// Answers a case; the draft is that of a schema that does not name its own.
+    /// Answers a case.
     ///
-    /// The answer is the judge's verdicts on the tests (`Case::results`), or the reason why there
-    /// are none (`Case::fault`).
+    /// A schema that does not name its draft is read in `draft`. The answer has a judge's verdicts
+    /// on the tests (`Case::results`), or the reason why there are none (`Case::fault`).
     ///
     /// # Errors
     ///
@@ -74,7 +74,7 @@ impl Case<'_> {
         }
     }
 
-    /// Returns the answer if no instance can be validated, with the reason.
+    /// Returns the answer with the reason why no instance can be validated.
     ///
     /// # Errors
     ///

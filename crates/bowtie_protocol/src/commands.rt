@@ -71,7 +71,7 @@ fn refuse(alloc: Global, seq: Option<&Value>, message: &str) -> Result<Turn, All
     reply(alloc, fault(alloc, seq, message)?)
 }
 
-/// Replies with what the implementation is.
+/// Replies with a description of the implementation.
 fn start(alloc: Global, command: &Value) -> Result<Turn, AllocError> {
     if command.get("version").and_then(Value::as_u64) == Some(1) {
         Ok(Turn::Reply(String::from_str(alloc, STARTED)?))
@@ -127,7 +127,7 @@ fn obey<E: Engine>(
     }
 }
 
-/// Replies with the reason why a line is no command.
+/// Replies with the reason why a line is not a command.
 fn refuse_line(alloc: Global, error: &serde_json::Error) -> Result<Turn, AllocError> {
     let text = format!(in alloc; "the line cannot be read: {error}")?;
     refuse(alloc, None, text.as_str())

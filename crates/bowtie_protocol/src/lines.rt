@@ -6,7 +6,7 @@ use anyhow::Result;
 use schema_drafts::keywords::Draft;
 use std::io::{BufRead, BufReader};
 
-/// Answers a line, and returns whether another one is read.
+/// Answers a line, and returns whether to read another one.
 fn answer_line<E: Engine>(
     rt: &HostRuntime,
     engine: &E,
@@ -24,7 +24,7 @@ fn answer_line<E: Engine>(
 
 /// Reads lines until `stop` or the end of input, and answers each.
 ///
-/// Schemas that do not name their draft are read in this one until a command sets another.
+/// Schemas that do not name their draft are read in `draft` until a command sets another.
 ///
 /// # Errors
 ///

@@ -3,9 +3,9 @@
 use serde_json::{Value, json};
 use std::alloc::{AllocError, Global};
 
-/// The reply to `start`: what the implementation is.
+/// The reply to `start`: a description of the implementation.
 ///
-/// It has the URIs of the dialects' meta-schemas, newest first.
+/// It lists the URIs of the dialects' meta-schemas, newest first.
 pub(crate) const STARTED: &str = concat!(
     r#"{"implementation":{"dialects":["https://json-schema.org/draft/2020-12/schema","https://json-schema.org/draft/2019-09/schema","#,
     r#""http://json-schema.org/draft-07/schema#","http://json-schema.org/draft-06/schema#","http://json-schema.org/draft-04/schema#"],"#,
@@ -39,7 +39,7 @@ pub(crate) fn answered(
     json!(in alloc; {"results": results, "seq": seq})
 }
 
-/// Returns the member of a fault that says what is wrong.
+/// Returns the `context` of a fault, which says what is wrong.
 fn context(alloc: Global, message: &str) -> Result<Value, AllocError> {
     json!(in alloc; {"message": message})
 }

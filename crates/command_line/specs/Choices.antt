@@ -19,7 +19,7 @@ output_named name =
     else if bytes_eq name (codes "list") then Some output.List
     else None
 
--- the draft that a word chooses: the number of its release, or the year and the month
+-- the draft that a word chooses: its number, or its year and month
 abbrev pub draft_named : Text → Option Draft
 draft_named name =
     if bytes_eq name (codes "4") then Some draft_4

@@ -14,10 +14,10 @@ line_text (Some n) = codes ",\"line\":" ++ decimal n
 abbrev pub subject_text : Text → Text → Option ℕ → Text
 subject_text schema instance line = codes ",\"schema\":" ++ quoted schema ++ codes ",\"instance\":" ++ quoted instance ++ line_text line
 
--- the front of an object
+-- the front of an object, up to its answer
 abbrev pub front_text : Output → Text → Text → Option ℕ → Text
 front_text output schema instance line = codes "{\"output\":" ++ quoted (name_of output) ++ subject_text schema instance line
 
--- the object with an answer, which is JSON
+-- the object with an answer; the answer is JSON
 abbrev pub answered_text : Output → Text → Text → Option ℕ → Text → Text
 answered_text output schema instance line payload = front_text output schema instance line ++ codes ",\"payload\":" ++ payload ++ codes "}" ++ 10 ∷ []

@@ -10,7 +10,7 @@ code_of outcome.Accepted = 0
 code_of outcome.Refused = 1
 code_of outcome.Unanswered = 2
 
--- the outcome of a run: its answer, unless it was stopped or an answer could not be written
+-- the outcome of a run; it is unanswered if it was stopped or an answer could not be written
 abbrev pub outcome_told : Bool → Result Outcome Stop → Outcome
 outcome_told true answered = outcome.Unanswered
 outcome_told false (Ok o) = o

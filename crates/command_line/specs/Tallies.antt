@@ -17,6 +17,6 @@ counted outcome.Unanswered t = record t { lines = one_more t.lines; unanswered =
 abbrev pub outcome_of : Tally → Outcome
 outcome_of t = if nat_lt 0 t.unanswered then outcome.Unanswered else if nat_lt 0 t.refused then outcome.Refused else outcome.Accepted
 
--- the number of lines a second, over this many milliseconds
+-- the number of lines per second over this many milliseconds
 abbrev pub rate_of : ℕ → ℕ → ℕ
 rate_of lines millis = min (lines * 1000 / max millis 1) (2 ^ 64 - 1)

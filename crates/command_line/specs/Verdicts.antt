@@ -4,8 +4,7 @@ use Rattle.theory_definitions.specs.Instance.{Text}
 use Rattle.command_line.specs.declared.reports.Paint.{Paint}
 use Rattle.command_line.specs.declared.reports.Paint.TheVariants.{Coloured, Plain}
 
--- if verdicts are coloured, green for valid and red for invalid, by the sequences of ECMA-48
--- (8.3.117)
+-- the word for a verdict: if it is coloured, green for valid and red for invalid (ECMA-48, 8.3.117)
 abbrev pub verdict_text : Paint → Bool → Text
 verdict_text Plain true = codes "VALID"
 verdict_text Plain false = codes "INVALID"

@@ -16,7 +16,7 @@ use std::alloc::Global;
 /// The outcome for an instance, and the text that is printed about it.
 pub type Answer = Result<(Outcome, String), OutOfMemory>;
 
-/// Answers for instances by one schema.
+/// Validates instances against one schema, and returns the texts to print.
 pub trait Answerer {
     /// Answers for an instance; nothing is printed if the text is empty.
     ///

@@ -1,4 +1,4 @@
-//! The command `jsonschema`, over an engine.
+//! The command of the program `jsonschema_cli`, over an engine.
 //!
 //! It has the words of the command, the reading of files and lines, the reports of faults, the text
 //! printed for an instance or a line, the counts of lines, and the exit status.

@@ -19,7 +19,7 @@ use std::io::{BufRead, BufReader, Read};
 /// The number of bytes of a file that are read at once.
 const AT_ONCE: usize = 65536;
 
-/// A file of lines, and the parts that answer for it.
+/// A file of lines, and the options by which it is answered for.
 #[derive(Clone, Copy)]
 struct Asked<'a, 'w> {
     rt: &'a HostRuntime,

@@ -23,7 +23,7 @@ pub fn cut_ending(line: &mut Vec<u8>)
     cut_last(line, b'\r');
 }
 
-/// Returns whether a line contains only spaces. Does not allocate.
+/// Returns whether a line contains only ASCII whitespace. Does not allocate.
 pub fn is_blank(line: &[u8]) -> bool
     ensures blank { result ≡ list_all is_ascii_whitespace line.now }
 {

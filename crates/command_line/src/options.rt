@@ -94,7 +94,7 @@ pub struct Options<'w> {
     /// The draft of schemas that do not name theirs.
     pub draft: Option<Draft>,
     pub output: Output,
-    /// Whether the schema is checked by its meta-schema.
+    /// Whether the schema is checked against its meta-schema.
     pub checked: bool,
     pub run_limit: Option<u32>,
     pub work_limit: Option<u64>,

@@ -17,7 +17,7 @@ fn bytes_of(rt: &HostRuntime, file: &str) -> io::Result<Vec<u8>> {
     }
 }
 
-/// Returns the value of a JSON file. Reports a fault of it.
+/// Reads the value of a JSON file. If that fails, reports why.
 pub fn value_of(rt: &HostRuntime, file: &str) -> Result<Value, Stop> {
     match bytes_of(rt, file) {
         Ok(bytes) => {

@@ -54,9 +54,9 @@ impl Tally {
         }
     }
 
-    /// Returns the number of lines a second over this many milliseconds.
+    /// Returns the number of lines per second over this many milliseconds.
     ///
-    /// No milliseconds count as one.
+    /// Zero milliseconds count as one.
     pub fn rate(&self, millis: u64) -> u64
         ensures rate { result ≡ rate_of self.now.lines millis }
     {

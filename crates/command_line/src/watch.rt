@@ -10,13 +10,12 @@ use std::time::Instant;
 /// The milliseconds between two lines that report progress.
 const BETWEEN: u64 = 1000;
 
-/// The time when the lines began, and how much of the time since is reported.
-///
-/// That time is in milliseconds.
+/// The time at which the lines began, and the time of the last report.
 #[derive(Clone, Copy)]
 pub struct Watch {
     /// `None` if the clock cannot be read.
     pub begun: Option<Instant>,
+    /// The milliseconds from the beginning to the last report, or 0 before the first.
     pub told: u64,
 }
 
@@ -39,8 +38,8 @@ impl Watch {
         u64::try_from(elapsed.as_millis()).ok()
     }
 
-    // Returns the milliseconds since the beginning if a second or more of them is not reported yet,
-    // and marks them as reported.
+    // Returns the milliseconds since the beginning, and notes them as those of the last report.
+    // Returns `None` if less than a second has passed since that report.
     fn to_tell(&mut self, rt: &HostRuntime) -> Option<u64>
         ensures begun { self.new.begun ≡ self.old.begun }
         ensures told { IfSome result (λ millis. self.new.told ≡ millis) }
@@ -55,7 +54,7 @@ impl Watch {
         Some(millis)
     }
 
-    /// Reports progress on standard error if a second or more is not reported yet.
+    /// Reports progress on standard error, but at most once a second.
     ///
     /// Does not allocate.
     pub fn tell(&mut self, rt: &HostRuntime, file: &str, tally: &Tally)
@@ -68,9 +67,10 @@ impl Watch {
         }
     }
 
-    /// Reports how many lines a file has, and on standard error how long they took.
+    /// Reports the counts of a file's lines, and how long they took.
     ///
-    /// The number goes to the desk if text is requested, and otherwise to standard error.
+    /// The counts go to the desk if the output is text, and otherwise to standard error. The time
+    /// goes to standard error.
     ///
     /// # Errors
     ///

@@ -148,7 +148,7 @@ fn values_of<'w>(
 
 /// Returns the resources of these words.
 ///
-/// The first words that name none are an inner `Err`.
+/// If a word names none, the first such word is an inner `Err`.
 fn resources_of<'w>(
     alloc: Global,
     words: &[&'w str],
@@ -188,7 +188,7 @@ fn options_of<'w>(
 
 /// Returns the resources that the matches name.
 ///
-/// The first words that name none are an inner `Err`.
+/// If a word names none, the first such word is an inner `Err`.
 fn resources_in<'w>(
     alloc: Global,
     matches: &ArgMatches<'w>,

@@ -1,7 +1,6 @@
 -- What a build promises of its validator: the clauses of `ValidationOptions::build` in one record,
--- over all the parts that the build takes; and the same over the sources. Then the resolver is one
--- of the sources, the table is the standard's, and the matcher is that of the sources' patterns.
--- (Core 2020-12, 8.2)
+-- over a resolver and a list of patterns; and then over sources, with a resolver that holds their
+-- documents. The table is the standard's, and the matcher has the patterns. (Core 2020-12, 8.2)
 use Rattle.std.specs.Prelude.{List}
 use Rattle.serde_json.specs.Data.{Data}
 use Rattle.serde_json.specs.View.{view}
@@ -25,7 +24,7 @@ use Rattle.standard_keywords.specs.declared.table.StandardTable.{StandardTable}
 use Rattle.standard_meta.specs.DraftMeanings.{handed_by}
 use Rattle.jsonschema.specs.Sources.{IsResolverOf, SchemaSources, options_by}
 
--- the matcher with these patterns; it leaves a match unfinished if a pattern cannot be read
+-- the matcher with these patterns; it leaves a match unfinished if its pattern cannot be read
 abbrev pub careful_matcher : List Text → Kept
 careful_matcher patterns = record { unreadable = careful patterns; patterns = patterns }
 
@@ -36,7 +35,7 @@ module _ {State S C Maker Run K : Type 0} (resolvers : ResolverMembers HeldDocum
   parts_by r patterns = handed_by resolvers tables keywords r (careful_matcher patterns)
 
   module _ (r : HeldDocuments) (patterns : List Text) (refuses : MetaChecks) (options : Options) (schema : Data) where
-    -- the validator that is built from a schema of the resolver
+    -- the program is that of a validator built from a schema that the resolver holds
     pub record IsBuilt (p : Program C Kept) : Type 0 where
       pub means : MeansPlainly (parts_by r patterns) options schema p
       pub units : HasPlainUnits (parts_by r patterns) options schema p
@@ -54,14 +53,14 @@ module _ {State S C Maker Run K : Type 0} (resolvers : ResolverMembers HeldDocum
       pub first : FirstOfBuild (parts_by r patterns) refuses options schema e
 
   module _ (refuses : MetaChecks) (options : Options) (s : SchemaSources) (patterns : List Text) where
-    -- the validator is built from the schema by a resolver of the sources; their draft and URI are
-    -- among the options
+    -- the validator is built from the schema of the sources, by a resolver that holds their
+    -- documents, with their draft and URI among the options
     pub record IsBuiltOf (p : Program C Kept) : Type 0 where
       pub resolver : HeldDocuments
       pub resolves : IsResolverOf s resolver
       pub built : IsBuilt resolver patterns refuses (options_by s options) (view s.schema) p
 
-    -- the error of such a build
+    -- the error refuses such a build
     pub record IsRefusedOf (e : BuildError) : Type 0 where
       pub resolver : HeldDocuments
       pub resolves : IsResolverOf s resolver

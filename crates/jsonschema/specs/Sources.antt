@@ -22,10 +22,12 @@ pub record SchemaSources : Type 0 where
 abbrev pub values_of : SchemaSources → List Data
 values_of s = view s.schema ∷ map (λ d. view d.value) s.documents
 
+-- the draft of schemas that do not name theirs: 2020-12 if none is set
 abbrev pub default_draft_of : SchemaSources → Draft
 default_draft_of s = unwrap_or s.draft draft_2020_12
 
--- a schema that names its draft keeps it
+-- the option for the root's draft: if the schema names no draft, the draft of the sources takes its
+-- place
 abbrev pub draft_option : SchemaSources → Option Draft → Option Draft
 draft_option s o = elim (get (codes "$schema") (view s.schema)) [ Some d ↦ o | None ↦ elim s.draft [ Some draft ↦ Some draft | None ↦ o ] ]
 

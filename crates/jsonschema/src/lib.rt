@@ -1,7 +1,7 @@
 //! JSON Schema validators for real-world schemas, built in one call.
 //!
-//! They have the standard's keywords, regular expressions, the documents that references lead to by
-//! their URIs, and the check against the meta-schemas.
+//! They have the standard's keywords and regular expressions. References lead to the documents that
+//! are supplied under their URIs, and schemas are checked against the meta-schemas.
 #![tactic(auto)]
 
 pub mod building;

@@ -65,7 +65,7 @@ fn add_meta_schemas<'a>(
 }
 
 impl<'a> Sources<'a> {
-    /// Creates sources with a schema alone. Does not allocate.
+    /// Creates sources with only a schema. Does not allocate.
     pub fn new(alloc: Global, schema: &'a Value) -> Sources<'a>
         ensures alone { result ≡ record { schema = schema.now; uri = None; draft = None; documents = [] } }
     {

@@ -17,7 +17,7 @@ use schema_engine::location::OutOfMemory;
 use serde_json::Value;
 use std::alloc::Global;
 
-/// Sets this limit on runs, if there is one that allows a run.
+/// Sets the limit on runs, if one is given that is at least 1.
 fn with_runs(options: ValidationOptions, limit: Option<u32>) -> ValidationOptions {
     match limit {
         Some(limit) if limit >= 1 => options.with_run_limit(limit),

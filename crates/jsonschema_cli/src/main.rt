@@ -1,8 +1,9 @@
 //! The program: validates JSON against a JSON Schema.
 //!
-//! `jsonschema SCHEMA [-i FILE].. [--lines FILE]` reads one document from each file, or one from
-//! each line of a file. `--help` lists the other options. The exit status is 0 if all documents are
-//! valid, 1 if one is not, and 2 if one could not be checked; then standard error says why.
+//! `jsonschema_cli SCHEMA [-i FILE].. [--lines FILE]` reads a document from each file of `-i`, and
+//! one from each line of the file of `--lines`. `--help` lists the other options. The exit status
+//! is 0 if all documents are valid, 1 if one is not, and 2 if something could not be checked; then
+//! standard error says why.
 #![tactic(auto)]
 
 mod building;

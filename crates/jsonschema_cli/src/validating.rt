@@ -1,4 +1,4 @@
-//! Answers for instances by a validator.
+//! Answers for instances with a validator.
 ghost use Rattle.std.specs.Prelude.{◌≤◌, IfOk};
 ghost use Rattle.command_line.specs.Outcomes.{code_of};
 
@@ -11,7 +11,7 @@ use jsonschema::StandardValidator;
 use serde_json::Value;
 use std::alloc::Global;
 
-/// Answers by this validator.
+/// Answers for instances with this validator.
 #[derive(Clone, Copy)]
 pub(crate) struct Validating<'v, 'p> {
     pub(crate) validator: &'v StandardValidator<'p>,
