@@ -1,6 +1,6 @@
 -- The first error that numbered nodes report of an instance, if the matcher leaves no match
--- unfinished. It is a function of the instance: the first error at a depth of questions that is
--- enough. A call that answers by the nodes from some depth on returns this error, also if chains of
+-- unfinished. It is a function of the instance: the first error at a sufficient depth of questions.
+-- A call that answers by the nodes from some depth on returns this error, even if chains of
 -- references return. (Core 2020-12, 4.3.5 and 8.1)
 use Rattle.std.specs.Prelude.{None, Option, [], suc, ℕ, ◌<◌, ◌≡◌, ◌≤◌}
 use Rattle.serde_json.specs.Data.{Data}
@@ -17,7 +17,7 @@ use Rattle.theory_meaning.specs.Members.{Finishes}
 use Rattle.theory_meaning.specs.Numbered.{Ranked, left, subject_in}
 
 module _ {K R : Type 0} (keywords : Keywords K R) (matcher : Matcher) (nodes : Nodes K) (count root : ℕ) (instance : Data) where
-  -- a depth from which on more depth changes nothing
+  -- a depth beyond which more depth changes nothing
   abbrev pub enough : ℕ
   enough = suc (left nodes count root (a_value instance) [])
 

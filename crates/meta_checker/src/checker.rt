@@ -79,10 +79,10 @@ impl<K: Validate, M: Matcher> Checker<K, M> {
 
     /// Creates a checker from a validator with the help of a matcher.
     ///
-    /// The validator's matcher finishes its matches if `matcher` does. Returns `None` if `matcher`
-    /// does not say that it finishes every match, if the validator's calls make no runs or have a
-    /// work limit, if its root is not among its nodes, or if one of its keywords shows a fraction
-    /// of the schema. Does not allocate.
+    /// The validator's matcher must finish every match if `matcher` does. Returns `None` if
+    /// `matcher` does not say that it finishes every match, if the validator's calls make no runs
+    /// or have a work limit, if its root is not among its nodes, or if one of its keywords shows a
+    /// fraction of the schema. Does not allocate.
     pub fn by_matcher<F: TellsFractions<K>>(
         fractions: &F,
         matcher: &M,

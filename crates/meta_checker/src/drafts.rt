@@ -18,17 +18,17 @@ use std::marker::Model;
 
 /// Makes the checkers of the drafts.
 pub trait CheckerMaker<K: Validate, M: Matcher> {
-    /// The reason why a checker is not made.
+    /// The reason why no checker is made.
     type Error: Drop;
 
-    /// The program checks the draft as the maker specifies.
+    /// Holds if the program checks the draft as the maker specifies.
     ghost checks: { Self → drafts.Draft → Program K M → Type 0 };
 
     /// Returns the checker of a draft.
     ///
     /// # Errors
     ///
-    /// The checker is not made, for a reason of the maker's.
+    /// The maker's reason why it makes no checker.
     fn checker(&self, alloc: Global, draft: Draft) -> Result<Checker<K, M>, Self::Error>
         ensures checks { IfOk result (λ c. checks self.now (draft_of draft) c) };
 }
@@ -62,7 +62,7 @@ impl<K: Validate, M: Matcher> Model for DraftCheckers<K, M> {
 }
 
 impl<K: Validate, M: Matcher> DraftCheckers<K, M> {
-    /// Requests the checker of each draft from a maker, the oldest draft first.
+    /// Makes a checker for each draft by a maker, the oldest draft's first.
     ///
     /// Does not allocate by itself.
     ///

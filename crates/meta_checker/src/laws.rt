@@ -8,9 +8,9 @@ use schema_traits::keyword::Validate;
 
 /// The first error of a call is a function of the nodes and the instance.
 ///
-/// If the matcher finishes every match, a call returns first what the numbered nodes report first
-/// at the depth from which on more depth changes nothing: one error or none. That holds also if
-/// chains of references return.
+/// If the matcher finishes every match, the first error of a call is the first one that the
+/// numbered nodes report at a depth beyond which more depth changes nothing; or neither reports
+/// one. That holds even if chains of references return.
 pub fn first_errors_are_told<K: Validate>()
     ensures told { (texts : Bool) → FirstIsTold (K.words texts) }
 {}

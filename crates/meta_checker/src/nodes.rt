@@ -1,4 +1,4 @@
-//! Whether the keywords of nodes show no fraction of the schema in their texts.
+//! Whether the keywords of nodes show fractions of the schema in their texts.
 ghost use Rattle.std.specs.Prelude.{◌≡◌, ◌↔◌, length, true};
 ghost use Rattle.std.specs.List.{list_all};
 ghost use Rattle.schema_node_table.specs.declared.node.Entry.{Entry};
@@ -11,7 +11,7 @@ use schema_node_table::node::{Entry, EntryForm, Node, NodeForm, Nodes};
 use schema_traits::keyword::Validate;
 use schema_traits::numbers::SchemaNode;
 
-/// Reports of a keyword whether it shows a fraction of the schema.
+/// Reports whether a keyword shows a fraction of the schema.
 pub trait TellsFractions<K: Validate> {
     /// Returns whether no text of the keyword shows a fraction of the schema.
     ///

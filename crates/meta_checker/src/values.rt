@@ -5,7 +5,7 @@ ghost use Rattle.serde_json.specs.View.{items_view, members_view, view};
 
 use serde_json::{Map, Value};
 
-/// Returns whether a number in a value is a float.
+/// Returns whether a value contains a number that is a float.
 #[cycle(walk)]
 pub fn has_fraction(value: &Value) -> bool
     ensures fraction { result ≡ has_float (view value.now) }

@@ -1,8 +1,8 @@
-//! Judges rows of the engine's cases.
+//! Judges rows of cases for the engine.
 //!
-//! `test_check_rows FILE ..` reads rows as JSON, one on a line. It prints the rows whose answer is
-//! not the one that they want, and the number of rows. The exit status is 0 if all rows are right,
-//! and 1 otherwise.
+//! `test_check_rows FILE ..` reads rows as JSON, one on each line. It prints each row whose answer
+//! is not the wanted one, and then how many rows there were and how many were wrong. The exit
+//! status is 0 if all rows are right, and 1 otherwise.
 #![tactic(auto)]
 
 use anyhow::Context;
@@ -54,9 +54,9 @@ fn tell(rt: &impl Print, wrong: Wrong, number: usize, file: &str) -> io::Result<
     }
 }
 
-/// Judges the rows of all files that the process is given.
+/// Judges the rows of all files that the arguments of the process name.
 ///
-/// Prints how many there were, and returns how many of them are wrong.
+/// Prints how many rows there were, and returns how many of them are wrong.
 fn check_files<R: Files + Env + Print + AllocGlobal>(rt: &R) -> anyhow::Result<usize> {
     let mut tally = Tally {
         verdicts: Vec::new(rt.alloc()),

@@ -1,4 +1,4 @@
-//! The way from a case to its answer.
+//! The engine's answers to cases.
 ghost use Rattle.std.specs.Prelude.{◌≡◌, IfOk};
 ghost use Rattle.serde_json.specs.View.{view};
 ghost use Rattle.test_rows.specs.Calls.{no_case};
@@ -57,10 +57,10 @@ fn strings_table() -> BothTable<TableByValue<StringTable>, BasicTable> {
 /// - If the schema is refused, it is `{"refused": number, "at": place, "text": text}`. The place is
 ///   `null` for refusals that have none.
 /// - If calls that should agree do not, it is `{"disagree": ..}`.
-/// - If the value is no case, it is `{"fault": text}`.
+/// - If the value is not a case, it is `{"fault": text}`.
 ///
-/// The table of the standard's keywords belongs to a crate above this one, and is passed in: it
-/// answers a case whose table is `standard`.
+/// The table of the standard's keywords is in a crate that this one does not depend on, so it is
+/// passed in. It answers a case whose table is `standard`.
 ///
 /// # Errors
 ///

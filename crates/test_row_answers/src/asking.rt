@@ -100,7 +100,7 @@ fn errors_count<K: Validate>(
     count
 }
 
-// Returns the number of units in the list, how many have errors, and the place of the last one.
+// Returns the number of units in the list, how many have errors, and the path of the last one.
 fn list_count<K: Validate>(
     alloc: Global,
     validator: &Validator<K, BenchMatcher>,

@@ -1,6 +1,6 @@
 //! Clones of validators.
 //!
-//! They answer as their sources do, and each of both still answers after the other is dropped.
+//! A clone answers as its source does, and each of them still answers after the other is dropped.
 
 use crate::asking::asked;
 use crate::building::built;
@@ -70,8 +70,8 @@ fn after_sources(
     after_source(alloc, copy?, question, instance)
 }
 
-// Returns the answers of a validator and its clones: a clone beside it, itself after this clone,
-// and a clone of a clone.
+// Returns three answers: of a clone while its source lives, of the source after that clone is
+// dropped, and of a clone of a clone.
 fn answers_of(
     alloc: Global,
     source: Validator<BasicKeyword, BenchMatcher>,
@@ -84,7 +84,7 @@ fn answers_of(
     [of_clone, of_source, after]
 }
 
-// Returns the answer if all three are the same, and otherwise each of them.
+// Returns the answer if all three are the same, and otherwise each answer.
 fn alike(
     alloc: Global,
     of_clone: Value,
@@ -98,7 +98,7 @@ fn alike(
     disagreement(alloc, "clone, source, clone of a clone", answers)
 }
 
-// Returns the answer of a validator and its clones if it is the same, and otherwise each of them.
+// Returns the answer of a validator and its clones if they agree, and otherwise each answer.
 fn answered_by_each(
     alloc: Global,
     source: Validator<BasicKeyword, BenchMatcher>,
@@ -109,8 +109,8 @@ fn answered_by_each(
     alike(alloc, of_clone?, of_source?, after?)
 }
 
-// Returns the answer of clones of a case's validator, by the table of `bench_parts`, or the reason
-// why there is no validator.
+// Returns the answer of a case's validator and its clones, with the table of `bench_parts`, or the
+// reason why there is no validator.
 pub(crate) fn answered_alike(
     alloc: Global,
     case: &Case<'_>,

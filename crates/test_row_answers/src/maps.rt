@@ -52,7 +52,7 @@ fn push_names<K: Validate>(
     Ok(())
 }
 
-// Returns whether a map says of each of its names that it contains it.
+// Returns whether `contains_key` holds for each name of a map.
 fn contains_each<K: Validate>(map: &ValidatorMap<K, BenchMatcher>) -> bool {
     for name in map.keys() {
         if !map.contains_key(name.as_str()) {
@@ -62,7 +62,7 @@ fn contains_each<K: Validate>(map: &ValidatorMap<K, BenchMatcher>) -> bool {
     true
 }
 
-// Returns the names of a map, if it says that it contains each, and this many.
+// Returns the names of a map if its other answers agree with them, and otherwise all its answers.
 fn names_beside(
     alloc: Global,
     names: Vec<Value>,
@@ -76,8 +76,6 @@ fn names_beside(
     json!(in alloc; {"disagree": {"keys": names, "contains_key": contained, "len": length, "is_empty": empty}})
 }
 
-// Returns the names of a map if it agrees on their number and contains each; otherwise what it
-// says.
 fn names<K: Validate>(
     alloc: Global,
     map: &ValidatorMap<K, BenchMatcher>,

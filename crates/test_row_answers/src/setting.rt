@@ -45,7 +45,7 @@ fn options_of(alloc: Global, case: &Case<'_>) -> Result<ValidationOptions, OutOf
     Ok(options)
 }
 
-// Returns the options of a case that contain no text.
+// Returns the options of a case without those that are texts.
 fn plain_options_of(alloc: Global, case: &Case<'_>) -> ValidationOptions {
     let mut options = limits_of(alloc, case);
     if let Some(draft) = case.draft("draft") {
@@ -60,7 +60,7 @@ fn plain_options_of(alloc: Global, case: &Case<'_>) -> ValidationOptions {
     options
 }
 
-// Sets the limit of nodes, if the case has one.
+// Sets the node limit, if the case has one.
 fn with_nodes(options: ValidationOptions, limit: Option<usize>) -> ValidationOptions {
     match limit {
         Some(limit) => options.with_node_limit(limit),
@@ -68,7 +68,7 @@ fn with_nodes(options: ValidationOptions, limit: Option<usize>) -> ValidationOpt
     }
 }
 
-// Sets the limit of open targets, if the case has one.
+// Sets the nested limit, if the case has one.
 fn with_nested(options: ValidationOptions, limit: Option<usize>) -> ValidationOptions {
     match limit {
         Some(limit) => options.with_nested_limit(limit),
@@ -76,7 +76,7 @@ fn with_nested(options: ValidationOptions, limit: Option<usize>) -> ValidationOp
     }
 }
 
-// Sets the limit of steps, if the case has one.
+// Sets the work limit, if the case has one.
 fn with_work(options: ValidationOptions, limit: Option<usize>) -> ValidationOptions {
     match limit {
         Some(limit) => options.with_work_limit(limit as u64),
@@ -95,7 +95,7 @@ fn limits_of(alloc: Global, case: &Case<'_>) -> ValidationOptions {
     }
 }
 
-// Returns the vocabularies that the resolver requires, each a custom one.
+// Returns the custom vocabularies that the resolver requires.
 fn required_by(alloc: Global, case: &Case<'_>) -> Result<VocabularySet, OutOfMemory> {
     let mut required = VocabularySet::new(alloc);
     for uri in case.list("requires") {
@@ -145,7 +145,7 @@ pub(crate) fn resolver_of<'c>(
     DocumentResolver::new(alloc, Rule::Narrow, draft, root, others, required)
 }
 
-// Returns the matcher that leaves a case's patterns unfinished.
+// Returns a matcher that leaves the matches of a case's `unfinished` patterns unfinished.
 fn matcher_of(alloc: Global, case: &Case<'_>) -> Result<BenchMatcher, OutOfMemory> {
     Ok(BenchMatcher::new(texts_of(alloc, case.list("unfinished"))?))
 }

@@ -10,7 +10,7 @@ use Rattle.test_rows.specs.declared.call.MapQuestion.TheVariants as by_map
 use Rattle.test_rows.specs.declared.call.Question.{Question}
 use Rattle.test_rows.specs.declared.call.Question.TheVariants as by_validator
 
--- the question of this name that requests errors or a verdict
+-- the question of this name, among those that request errors or a verdict
 abbrev pub errors_question_named : Text → Option Question
 errors_question_named t =
     if bytes_eq t (codes "errors") then Some by_validator.Errors
@@ -19,7 +19,7 @@ errors_question_named t =
     else (if bytes_eq t (codes "iter_errors") then Some by_validator.IterErrors
     else (if bytes_eq t (codes "errors_count") then Some by_validator.ErrorsCount else None))))
 
--- the question of this name that requests an evaluation
+-- the question of this name, among those that request an evaluation
 abbrev pub evaluation_question_named : Text → Option Question
 evaluation_question_named t =
     if bytes_eq t (codes "evaluate") then Some by_validator.Evaluate
@@ -27,7 +27,7 @@ evaluation_question_named t =
     else (if bytes_eq t (codes "evaluation_errors") then Some by_validator.EvaluationErrors
     else (if bytes_eq t (codes "list_count") then Some by_validator.ListCount else None)))
 
--- the question of this name about the result of the build
+-- the question of this name, among those about the result of the build
 abbrev pub build_question_named : Text → Option Question
 build_question_named t =
     if bytes_eq t (codes "build") then Some by_validator.Build
@@ -41,18 +41,18 @@ first_question (Some question) _ _ = Some question
 first_question None (Some question) _ = Some question
 first_question None None question = question
 
--- the question of this name to a validator
+-- the question to a validator that has this name
 abbrev pub question_named : Text → Option Question
 question_named t = first_question (errors_question_named t) (evaluation_question_named t) (build_question_named t)
 
--- the question of this name to a map
+-- the question to a map that has this name
 abbrev pub map_question_named : Text → Option MapQuestion
 map_question_named t =
     if bytes_eq t (codes "map") then Some by_map.Names
     else (if bytes_eq t (codes "map_errors") then Some by_map.Errors
     else (if bytes_eq t (codes "map_draft") then Some by_map.Draft else None))
 
--- the call of this name that is no question
+-- the call of this name that is not a question
 abbrev pub other_call_named : Text → Option Call
 other_call_named t =
     if bytes_eq t (codes "clone") then Some (Clones by_validator.Errors)
@@ -70,10 +70,10 @@ call_of None None call = call
 abbrev pub call_named : Text → Option Call
 call_named t = call_of (question_named t) (map_question_named t) (other_call_named t)
 
--- the call that the member of a case names
+-- the call that the member `call` of a case names
 abbrev pub call_in : Data → Option Call
 call_in case = option_and_then call_named (option_and_then as_str (get (codes "call") case))
 
--- the answer to a value that is no case
+-- the answer to a value that is not a case
 abbrev pub no_case : Data
 no_case = object (member (codes "fault") (string (codes "no case")) no_members)

@@ -34,7 +34,8 @@ is_bench Items = false
 is_bench Strings = false
 is_bench Standard = false
 
--- a table supports a call: clones only by that of `bench_parts`, all others by each
+-- a table supports a call: only that of `bench_parts` supports clones, and every table supports all
+-- other calls
 abbrev pub is_asked_by : Call → Table → Bool
 is_asked_by (Validator question) table = true
 is_asked_by (Clones question) table = is_bench table
@@ -53,18 +54,18 @@ case_of None _ _ = None
 case_of (Some schema) None _ = None
 case_of (Some schema) (Some call) table = call_by call table
 
--- the call of the case that a value is, or nothing if it is no case
+-- the call of a value that is a case, or nothing if it is not one
 abbrev pub case_in : Data → Option Call
 case_in value = case_of (get (codes "schema") value) (call_in value) (table_in value)
 
--- the table does not support the call that is named with it
+-- the table that is named does not support the call that is named
 abbrev pub IsAskedByAnother : Data → Type 0
 IsAskedByAnother value =
     (call : Call) × (table : Table) × (call_in value ≡ Some call) × (table_in value ≡ Some table) × (is_asked_by call table ≡ false)
 
--- why a value is no case: it has no member `schema` (only an object can have one); its member
--- `call` is missing, is no text, or names no call; its member `table` is present, and is no text or
--- names no table; or it asks of clones by another table than that of `bench_parts`
+-- why a value is not a case: it has no member `schema` (only an object can have one); its member
+-- `call` is missing, is not a text, or names no call; its member `table` is present, but is not a
+-- text or names no table; or it requests clones with a table other than that of `bench_parts`
 abbrev pub IsNoCase : Data → Type 0
 IsNoCase value =
     (get (codes "schema") value ≡ None) ⊎ (call_in value ≡ None) ⊎ (table_in value ≡ None) ⊎ IsAskedByAnother value

@@ -9,8 +9,8 @@ is_same_truth true b = b
 is_same_truth false true = false
 is_same_truth false false = true
 
--- the same number of the same kind: a whole number is no fraction; two fractions are compared as
--- floats
+-- the same number of the same kind: a whole number is never the same as a fraction, and two
+-- fractions are compared as floats
 abbrev pub is_same_number : Num → Num → Bool
 is_same_number (unsigned m) (unsigned n) = m == n
 is_same_number (negative x) (negative y) = int_eq x y

@@ -9,14 +9,14 @@ use Rattle.test_rows.specs.Wanted.{is_wanted}
 use Rattle.test_rows.specs.declared.asking.RowAnswer.{RowAnswer}
 use Rattle.test_rows.specs.declared.asking.RowAnswer.TheVariants.{Fault, Given}
 
--- the result of a call is the wanted one, if there is a call and something is wanted
+-- there is a call, something is wanted, and the result of the call is as wanted
 abbrev pub is_answered : Option Call → Option Data → Data → Bool
 is_answered None want given = false
 is_answered (Some call) None given = false
 is_answered (Some call) (Some want) given = is_wanted call given want
 
 -- a row is right with an answer if it is a case, and the answer is the one that its member `want`
--- wants of the case's call
+-- requires of the case's call
 abbrev pub is_right : Data → Data → Bool
 is_right row given = is_answered (case_in row) (get (codes "want") row) given
 

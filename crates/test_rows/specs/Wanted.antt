@@ -13,7 +13,7 @@ use Rattle.test_rows.specs.declared.call.Question.{Question}
 use Rattle.test_rows.specs.declared.call.Question.TheVariants as by_validator
 use Rattle.test_rows.specs.Equality.{is_same}
 
--- a list that passes a test
+-- a value is a list that passes a test
 abbrev pub is_list : (Items → Bool) → Data → Bool
 is_list test given = unwrap_or (option_map test (as_array given)) false
 
@@ -72,7 +72,7 @@ are_these_names names wanted = (items_len names == items_len wanted) && (are_in 
 abbrev pub are_names : Data → Data → Bool
 are_names = is_list_or_same are_these_names
 
--- a member that was found or not: nothing is wanted, or it is present and the same
+-- nothing is wanted, or the member is present and has the wanted value
 abbrev pub is_found : Option Data → Option Data → Bool
 is_found found None = true
 is_found None (Some wanted) = false
@@ -82,7 +82,7 @@ is_found (Some value) (Some wanted) = is_same value wanted
 abbrev pub is_as_wanted : Text → Data → Data → Bool
 is_as_wanted name given want = is_found (get name given) (get name want)
 
--- a text ends with another text, if both are present
+-- both texts are present, and the first ends with the second
 abbrev pub ends_by : Option Text → Option Text → Bool
 ends_by (Some text) (Some end) = ends_with eqb text end
 ends_by _ _ = false

@@ -48,7 +48,7 @@ impl Answers {
     }
 }
 
-/// Returns the errors if the calls agree, or the refusal if it is the same.
+/// Returns the errors if the calls agree, or the refusal if all have the same.
 ///
 /// Otherwise returns the answer of each.
 pub fn agreed(alloc: Global, answers: Answers) -> Result<Value, OutOfMemory> {
@@ -68,7 +68,7 @@ pub fn agreed(alloc: Global, answers: Answers) -> Result<Value, OutOfMemory> {
 
 /// Returns the answers of calls that should agree but do not.
 ///
-/// They come after the names of the calls.
+/// The names of the calls come with them.
 pub fn disagreement(alloc: Global, calls: &str, answers: Vec<Value>) -> Result<Value, OutOfMemory> {
     json!(in alloc; {"disagree": calls, "answers": answers})
 }

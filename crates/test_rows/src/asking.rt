@@ -13,7 +13,7 @@ use std::collections::BTreeSet;
 pub trait Answering {
     /// Returns the answer to a case, as JSON.
     ///
-    /// If the value is no case, the answer is `{"fault": text}`.
+    /// If the value is not a case, the answer is `{"fault": text}`.
     ///
     /// # Errors
     ///
@@ -23,7 +23,7 @@ pub trait Answering {
 
 /// The result of a row.
 ///
-/// It is the fault of the row itself, or the row, written out, with the answer to it.
+/// It is the fault of the row itself, or the row in its full form with the answer to it.
 #[derive(Drop)]
 pub enum RowAnswer {
     Fault(String),
@@ -93,7 +93,7 @@ fn asked<A: Answering>(
 
 /// Returns the result of a line, and adds the row's name to `names`.
 ///
-/// The name must be new.
+/// If the name is there already, the row has a fault.
 ///
 /// # Errors
 ///

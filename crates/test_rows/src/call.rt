@@ -17,7 +17,7 @@ pub enum Question {
     List,
     /// The errors of the evaluation, each with its evaluation path and text.
     EvaluationErrors,
-    /// The number of units in the list, how many have errors, and the last place.
+    /// The number of units in the list, how many have errors, and the path of the last one.
     ListCount,
     /// The number of errors, and the first and the last of them.
     ErrorsCount,
@@ -49,7 +49,7 @@ pub enum Call {
     Map(MapQuestion),
     /// The four calls that build and validate in one.
     Free,
-    /// The check of the schema by the meta validators alone.
+    /// Only the check of the schema by the meta validators.
     Check,
 }
 
@@ -131,7 +131,7 @@ fn map_question_named(name: &str) -> Option<MapQuestion>
     }
 }
 
-// Returns the call of this name that is no question.
+// Returns the call of this name that is not a question.
 fn other_call_named(name: &str) -> Option<Call>
     ensures named { result ≡ other_call_named name.now }
 {

@@ -57,11 +57,11 @@ pub struct Case<'c> {
 }
 
 impl<'c> Case<'c> {
-    /// Returns the case that this object is, or `None` if it is none.
+    /// Reads an object as a case, or returns `None` if it is not a case.
     ///
-    /// It is none if it has no schema; if its member `call` does not name a call; if its member
-    /// `table`, where there is one, does not name a table; or if it asks of clones by another table
-    /// than that of `bench_parts`. Does not allocate.
+    /// It is not a case if it has no schema, if its member `call` does not name a call, if it has a
+    /// member `table` that does not name a table, or if it requests clones with a table other than
+    /// that of `bench_parts`. Does not allocate.
     pub fn read(members: &'c Value) -> Option<Case<'c>>
         ensures schema { IfSome result (λ c. get (codes "schema") (view members.now) ≡ Some (view c.schema.now)) }
         ensures instance { IfSome result (λ c. view c.instance.now
@@ -103,7 +103,7 @@ impl<'c> Case<'c> {
         self.members.get(name).and_then(Value::as_bool)
     }
 
-    /// Returns the number of the member with this name: a whole number from 0.
+    /// Returns the whole number, from 0, of the member with this name.
     pub fn count(&self, name: &str) -> Option<usize>
         ensures count { result ≡ count_in (get name.now (view self.now.members.now)) }
     {
@@ -144,8 +144,8 @@ impl<'c> Case<'c> {
     }
 }
 
-// Returns whether a table supports a call: clones only by that of `bench_parts`, all others by
-// each.
+// Returns whether a table supports a call. Only that of `bench_parts` supports clones; every table
+// supports all other calls.
 fn is_asked_by(call: Call, table: Table) -> bool
     ensures asked { result ≡ is_asked_by call table }
 {

@@ -1,12 +1,13 @@
-//! Values that are written shorter than they are.
+//! Values that are written in a shorter form.
 //!
 //! In a list, an object whose member `@times` is `[count, value]` stands for this many copies of
-//! the value. In an object, a member `@members` that is `[count, name, value]` stands for this many
-//! members. In their texts and names, `{}` is replaced by the number of the copy, from 0, and `{+}`
-//! by the next number. An object whose member `@within` is `[count, name, value]` is the value
-//! inside this many objects, each with this one member. An object whose member `@text` is
-//! `[count, text, last]` is the text this many times, and then the last text. The repeated part is
-//! grown first, so a number belongs to the innermost repetition around it.
+//! the value; if there are several values, the group is repeated. In an object, a member `@members`
+//! that is `[count, name, value]` stands for this many members. In their texts and names, `{}` is
+//! replaced by the number of the copy, from 0, and `{+}` by the next number. An object whose member
+//! `@within` is `[count, name, value]` is the value inside this many objects, each with this one
+//! member. An object whose member `@text` is `[count, text, last]` is the text this many times, and
+//! then the last text. The repeated part is grown first, so a number belongs to the innermost
+//! repetition around it.
 
 use serde_json::{Map, Value};
 use std::alloc::{AllocError, Global};
@@ -151,7 +152,9 @@ fn repeated_text(alloc: Global, count: u64, text: &str, last: &str) -> Result<St
     Ok(whole)
 }
 
-/// Returns the value that is written so; a copy if nothing is repeated.
+/// Returns the value that a shorter form stands for.
+///
+/// If nothing is repeated in it, the result is a copy.
 ///
 /// # Errors
 ///

@@ -11,16 +11,16 @@ use serde_json::Value;
 use std::alloc::{AllocError, Global};
 use std::collections::BTreeSet;
 
-/// A wrong row: its name, if one could be read, and what came of it.
+/// A wrong row: its name, if one could be read, and its result.
 ///
-/// That is the answer in place of the wanted one, as JSON, or the fault of the row itself.
+/// The result is the answer instead of the wanted one, as JSON, or the fault of the row itself.
 #[derive(Drop)]
 pub struct Wrong {
     pub name: Option<String>,
     pub given: String,
 }
 
-/// The result of the rows so far.
+/// The results of the rows so far.
 #[derive(Drop)]
 pub struct Tally {
     /// For each row, whether it is right.
@@ -58,7 +58,7 @@ fn given_in(alloc: Global, answer: &RowAnswer) -> Result<String, AllocError> {
     }
 }
 
-// Returns the name of a line's row, and what came of it.
+// Returns the name of a line's row, and its result.
 fn wrong_in(alloc: Global, line: &Line) -> Result<Wrong, AllocError> {
     let name = line.name.clone()?;
     let given = given_in(alloc, &line.answer)?;
@@ -108,7 +108,7 @@ pub fn count_wrong(verdicts: &[bool]) -> usize
     verdicts.iter().filter(|right| !**right).count()
 }
 
-/// Returns the last line: the number of rows, and how many of them are wrong.
+/// Returns the last line of a report: the number of rows, and how many are wrong.
 ///
 /// # Errors
 ///

@@ -1,7 +1,7 @@
-//! Rows of cases of the engine, without the engine.
+//! Rows of tests for the engine, which do not depend on the engine.
 //!
 //! The crate defines cases, reads and grows rows, writes results as values, and compares answers
-//! with the ones that rows want, whatever answers. It also has the tables of rows that tests read.
+//! with the ones that rows want, whoever answers. It also has the tables of rows that tests read.
 #![tactic(auto)]
 
 pub mod answers;

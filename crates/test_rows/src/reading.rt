@@ -170,8 +170,8 @@ fn fault_of(alloc: Global, name: &str, value: &Value) -> Result<Option<String>, 
 
 /// Returns the fault of a row's shape, or `None` if it has none.
 ///
-/// A row has to be an object with the members that each row needs. It may have no member that rows
-/// do not have, and each member has its shape.
+/// A row must be an object that has the members that every row needs, and no unknown ones. Each
+/// member must have its shape, and `documents` requires `uri`.
 ///
 /// # Errors
 ///

@@ -76,7 +76,9 @@ pub fn errors_in(alloc: Global, errors: ErrorIterator<'_>) -> Result<Vec<Value>,
     Ok(values)
 }
 
-/// Returns the list of an evaluation if its verdict is this one; else both.
+/// Returns the list of an evaluation if its verdict is `valid`.
+///
+/// Otherwise returns both verdicts.
 pub fn list_in(alloc: Global, evaluation: &Evaluation, valid: bool) -> Result<Value, OutOfMemory> {
     let evaluated = evaluation.is_valid();
     if evaluated == valid {

@@ -27,7 +27,7 @@ pub fn text_at(row: &Value, number: usize) -> &str
     column(row, number).as_str().unwrap_or("")
 }
 
-/// Returns the items of the list in a column, or nothing.
+/// Returns the items of the list in a column, or none.
 pub fn list_at(row: &Value, number: usize) -> &[Value]
     ensures list { items_view result.now ≡ list_in (unwrap_or (at number (view row.now)) (view row.now)) }
 {
@@ -63,6 +63,8 @@ pub fn texts_of(alloc: Global, list: &[Value]) -> Result<Vec<String>, AllocError
 }
 
 /// Returns the text that a row wants.
+///
+/// It is the first column, or the texts of the list there, joined.
 pub fn wanted_of(alloc: Global, row: &Value) -> Result<String, AllocError> {
     let mut wanted = String::from_str(alloc, text_at(row, 0))?;
     for part in list_at(row, 0) {
@@ -71,9 +73,9 @@ pub fn wanted_of(alloc: Global, row: &Value) -> Result<String, AllocError> {
     Ok(wanted)
 }
 
-/// Returns the number of the first row of a table that does not hold.
+/// Returns the number of the first row of a table for which `holds` is false.
 ///
-/// Rows are counted from 0. Returns 0 if there are no rows.
+/// Rows are counted from 0. Returns 0 if the table has no rows.
 ///
 /// # Errors
 ///
