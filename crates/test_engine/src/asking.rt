@@ -1,6 +1,6 @@
 //! Builds validators and requests their answers.
 //!
-//! Only the functions here build by `Validator::new` or by options, and call the validators.
+//! Most of the calls that the tests make of the engine are here.
 use bench_parts::matcher::BenchMatcher;
 use bench_parts::meta::BenchMeta;
 use bench_program::narrow::narrow_resolver;
@@ -23,7 +23,7 @@ use test_rows::tables::{column, list_at, number_at, push_all, texts_of};
 
 /// The resolver of a row's schema, and the matcher for the row's patterns.
 ///
-/// The matcher leaves the patterns unfinished.
+/// The matcher leaves the matches of these patterns unfinished.
 #[derive(Drop)]
 pub(crate) struct Parts<'r> {
     pub resolver: DocumentResolver<'r>,
@@ -47,7 +47,7 @@ pub(crate) fn parts_of(alloc: Global, row: &Value) -> Result<Parts<'_>, OutOfMem
 
 /// Builds the validator of a row's schema.
 ///
-/// It has the default options, or the limit of keys in column 3.
+/// The options are the default ones, with the node limit in column 3 if there is one.
 pub(crate) fn built<K: Validate, T: KeywordTable<K>, R: Resolver, M: Matcher>(
     alloc: Global,
     table: &T,
@@ -188,7 +188,7 @@ pub(crate) fn tell_with<K: Validate, T: KeywordTable<K>, R: Resolver, M: Matcher
     }
 }
 
-/// Adds the answers of a row, by a table and the row's parts.
+/// Adds the answers of a row, with a table and the row's parts.
 pub(crate) fn tell_by<K: Validate, T: KeywordTable<K>>(
     alloc: Global,
     table: &T,

@@ -1,7 +1,7 @@
 //! A thousand references, one inside the other.
 //!
-//! The rows have two hundred: Rattle's own compiler also builds the program that reads them, and on
-//! a usual stack it has no room for more.
+//! The rows of `test_check_rows` have two hundred, since the program that reads them is also built
+//! by Rattle's own compiler, and then has no room for more on a usual stack.
 use crate::asking::listed;
 use schema_reports::location::OutOfMemory;
 use serde_json::Value;
@@ -20,7 +20,7 @@ fn list_of_chain(alloc: Global, references: u16) -> Result<Value, serde_json::Er
 
 /// Returns whether the counts of a list are those of a chain.
 ///
-/// They are so many units, one of them with errors, and the last one below a thousand references.
+/// There are 1,002 units, one of them with errors, and the last one is below a thousand references.
 fn tells_chain(alloc: Global, counted: &Value) -> Result<bool, OutOfMemory> {
     let mut path = "/$ref".repeat(alloc, 1000)?;
     path.push_str("/type")?;

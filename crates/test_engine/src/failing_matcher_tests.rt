@@ -1,7 +1,6 @@
-//! A matcher whose engine fails, and which once runs out of memory.
+//! A matcher whose engine fails, and which runs out of memory once, at a chosen question.
 //!
-//! It does so at a question of its own choice. The matcher of the rows of `test_check_rows` does
-//! neither.
+//! The matcher of the rows of `test_check_rows` does neither.
 use crate::asking::{built, push_answers, push_refusal};
 use bench_parts::meta::BenchMeta;
 use bench_program::narrow::narrow_resolver;
@@ -104,7 +103,7 @@ fn push_four<K: Validate, M: Matcher>(
 
 /// Adds the answers of a validator until memory runs out.
 ///
-/// After `!` come its answers to the same calls once more.
+/// Then adds `!`, and the answers to the same calls once more.
 fn push_again<K: Validate, M: Matcher>(
     alloc: Global,
     validator: &Validator<K, M>,
@@ -164,10 +163,10 @@ pub(crate) fn tell_wanting(
 }
 
 // The answers until memory runs out, and then those to the same calls once more; schema, instance,
-// nothing, and the question at which memory runs out. For the list, the verdict takes 8 questions,
-// the first error 21, all errors 23 and the evaluation 21; for the first text each call takes 5.
-// For the second text each run requests all six matches, which have more outcomes than a call looks
-// at: so each call takes exactly 384 questions if it makes 64 runs.
+// nothing, and the question at which memory runs out. For the list as instance, the verdict takes 8
+// questions, the first error 21, all errors 23 and the evaluation 21; for the first text each call
+// takes 5. For the second text each run requests all six matches, which have more outcomes than a
+// call looks at, so each call takes exactly 384 questions if it makes 64 runs.
 pub(crate) const WANTING: &str = r##"[
 ["!no: Regex engine failed to evaluate pattern 'q'; Regex engine failed to evaluate pattern 'q'; invalid",
  {"items":{"pattern":"q"}}, ["a", "b"], null, 1],

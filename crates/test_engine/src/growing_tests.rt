@@ -1,7 +1,7 @@
 //! A custom resolver, whose state grows by one with each lookup.
 //!
-//! A schema that refers to itself never comes back to a key. The rows of `test_check_rows` have no
-//! such resolver.
+//! With it, a schema that refers to itself never reaches a key twice. The rows of `test_check_rows`
+//! have no such resolver.
 use crate::asking::{Parts, parts_of, tell_with};
 use bench_parts::matcher::BenchMatcher;
 use schema_reports::location::OutOfMemory;

@@ -69,7 +69,7 @@ pub(crate) fn tell_leaf(alloc: Global, row: &Value, log: &mut String) -> Result<
 
 // The answers, the keyword's value, instance, whether it is a leaf, patterns of the detour. In the
 // first row the pattern matches, so a leaf never requests the six matches, which would have more
-// outcomes than a call looks at. A keyword that is no leaf requests them at once. If the pattern
+// outcomes than a call looks at. A keyword that is not a leaf requests them at once. If the pattern
 // does not match, a leaf computes errors too, and then requests the six.
 pub(crate) const LEAVES: &str = r##"[
 ["yes", "b", "abc", true, ["d","e","f","g","h","i"]],

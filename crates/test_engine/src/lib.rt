@@ -2,12 +2,12 @@
 //!
 //! The rows are those of `test_check_rows`. The tests cover the engine with a keyword type, a
 //! table, a resolver or a matcher of their own (`test_parts`); calls that are made once more after
-//! lack of memory, or that count their questions; a reference chain that needs more stack than
-//! every compiler leaves; and the output of the program `engine_bench`.
+//! lack of memory, or that count their questions; a reference chain that needs more stack than some
+//! compilers leave; and the output of the program `engine_bench`.
 //!
 //! Their cases are rows of tables, which `rows` tests one by one. A row begins with the text that
-//! is wanted of it. Few functions call the engine, mostly in `asking`, so that there is little to
-//! prove. A proved function is not tested for what its clauses state.
+//! is wanted. Few functions call the engine, mostly in `asking`, so that there is little to prove.
+//! A proved function is not tested for what its clauses state.
 #![tactic(auto)]
 
 #[cfg(test)]

@@ -1,7 +1,7 @@
 //! The output of the program `engine_bench` and its status, through `run`.
 //!
-//! The tests compare printed texts to the letter, statuses, faults in the words, words that are not
-//! UTF-8, writers that refuse, and the words of a process.
+//! The tests compare printed texts to the letter, and statuses. They cover faults in the words,
+//! words that are not UTF-8, writers that refuse, and the words of a process.
 use bench_program::program::arguments::given_words;
 use bench_program::program::faults::Fault;
 use bench_program::program::{refuse, run};
@@ -15,7 +15,7 @@ use test_rows::tables::{column, list_at, number_at};
 
 /// Returns the writer of a row.
 ///
-/// Column 3 is how many bytes it takes, if not all, and column 4 whether its flush refuses.
+/// Column 3 is how many bytes it takes, if not all; if column 4 is false, its flush fails.
 fn writer_of(alloc: Global, row: &Value) -> NarrowWriter {
     NarrowWriter {
         taken: Vec::new(alloc),

@@ -28,7 +28,7 @@ pub(crate) fn tell_numbers<K: Numbered, T: KeywordTable<K>>(
 }
 
 // A stroke for each node, and the number that each keyword that marks was given; schema, nothing,
-// nothing, no patterns. (Its answers are in rows.)
+// nothing, no patterns. (The answers for this schema are tested by rows of `test_check_rows`.)
 pub(crate) const RESERVATIONS: &str = r##"[
 ["||||| first first",
  {"$ref":"#/$defs/e/$defs/t","$defs":{"e":{"$id":"http://x/e","$defs":{"t":{"type":"array","x-items":{"$ref":"#/$defs/t"}}}}}},

@@ -1,6 +1,6 @@
-//! A vocabulary that one draft alone requires, which no option of a row sets.
+//! A vocabulary that only one draft requires, which no member of a row can express.
 //!
-//! A map checks for it at the root, and not for its entries.
+//! A map checks the vocabularies that its root requires, but not those that its entries require.
 use crate::asking::push_refusal;
 use bench_parts::matcher::BenchMatcher;
 use bench_parts::meta::BenchMeta;
@@ -62,7 +62,7 @@ fn tell_name<K: Validate, T: KeywordTable<K>, R: Resolver, M: Matcher>(
     }
 }
 
-/// Like `tell_name`, if 2019-09 alone requires the custom vocabulary.
+/// Like `tell_name`, with a resolver by which only 2019-09 requires the vocabulary.
 pub(crate) fn tell_names(alloc: Global, row: &Value, log: &mut String) -> Result<(), OutOfMemory> {
     let by_draft = requiring_in_2019_09(alloc)?;
     let vocabularies = VocabularySet::new(alloc);
@@ -89,8 +89,8 @@ pub(crate) fn tell_names(alloc: Global, row: &Value, log: &mut String) -> Result
     }
 }
 
-// Whether the map has the name, schema, name. A subschema requires the vocabulary. If no reference
-// leads to it, it is in the map; a schema that refers to it is not.
+// Whether the map has the name, schema, name. The subschema `a` requires the vocabulary. It is in
+// the map, even if another schema refers to it; the schema that refers to it is not.
 pub(crate) const VOCABULARIES: &str = r##"[
 ["yes", {"$defs":{"a":{"$schema":"https://json-schema.org/draft/2019-09/schema"}}}, "#/$defs/a"],
 ["yes", {"$defs":{"a":{"$schema":"https://json-schema.org/draft/2019-09/schema"},"b":{"$ref":"#/$defs/a"}}}, "#/$defs/a"],

@@ -187,7 +187,7 @@ const OF_STANDARDS: [Case; 19] = [
     ("email", "joe.bloggs@[IPv6:::1]", true),
 ];
 
-/// Examples of RFC 6570, and texts on either side of two grammars.
+/// Examples of RFC 6570, and texts that two grammars accept or refuse.
 ///
 /// The examples are from sections 1.1, 1.2 and 3.2. The grammars are those of RFC 6570, section 2,
 /// and of RFC 6531, section 3.3.

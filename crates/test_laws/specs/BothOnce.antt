@@ -1,5 +1,6 @@
 -- A keyword with two children that holds if both accept. Its run marks each child, and skips the
--- second if that is marked already: then it is the first one again, with the same answer.
+-- second if that is marked already, since then it is the same node as the first, with the same
+-- answer.
 use Rattle.std.proofs.Common.{◌≡◌, ◌∙◌, ℕ, zero, suc, ◌<◌, ◌&&◌, ◌||◌, ◌⊎◌, ◌∷◌, [], List, Bool, true, false, refl, sym, ap, ap₂, arith, inl, inr}
 use Rattle.std.specs.List.{list_any}
 use Rattle.std.specs.Prelude.{All, if◌then◌else◌, ⊤}
@@ -83,7 +84,7 @@ once_left m s r = left_at r.0.0
 abbrev pub once_can_be : Bool → ⊤ → Subject → Once × Answer → Type 0
 once_can_be texts m s r = Unit {0}
 
--- the verdict that is left to find out at each stage
+-- the verdict at the end of the run, from each stage
 abbrev pub accepted_at : Stage → Bool → Bool → Bool → Bool → Bool
 accepted_at stage.MarksFirst accepted said first second = accepted && (first && second)
 accepted_at stage.AsksFirst accepted said first second = accepted && (first && second)
@@ -227,7 +228,7 @@ once_functions texts m = record {
   passes = λ s matches a. refusals_pass texts a both ((a (child_at 0)).verdict && (a (child_at 1)).verdict);
 }
 
--- ---- it asks for verdicts alone
+-- ---- it requests only verdicts
 
 step_for_less : (t : Stage) (said : Bool) → AsksForLess (step_once t said)
 step_for_less stage.MarksFirst said = tt

@@ -1,6 +1,6 @@
 -- A keyword that validates each item against its only child, the last item first. Its run holds the
 -- number of items that are left, which it stores at the beginning. So its questions are right, and
--- it ends within that many turns, only if no more items are left than there are.
+-- it ends within the bound on its turns, only if no more items are left than the instance has.
 use Rattle.std.proofs.Common.{◌≡◌, ◌∙◌, ℕ, zero, suc, ◌+◌, ◌<◌, ◌≤◌, ◌&&◌, ◌⊎◌, ◌∷◌, [], List, Bool, true, false, not, refl, sym, ap, ap₂, arith, inl, inr}
 use Rattle.std.specs.Prelude.{All, Contains, ⊤}
 use Rattle.std.specs.List.{list_all}
@@ -76,7 +76,7 @@ each_absorbed m = []
 abbrev pub each_left : ⊤ → Subject → Left × Answer → ℕ
 each_left m s r = r.0.0
 
--- no more items are left than there are
+-- no more items are left than the instance has
 abbrev pub each_can_be : Bool → ⊤ → Subject → Left × Answer → Type 0
 each_can_be texts m s r = r.0.0 ≤ item_count s
 
@@ -142,7 +142,7 @@ is_right texts m s matches a u same for_units valid = (
   told_valid texts (holds_by s (λ q. (a q).verdict)),
 )
 
--- a true reply refuses if the verdict is no
+-- a reply with a verdict refuses if the verdict is no
 pub one_more : (accepted verdict rest : Bool) → ((accepted && not (not verdict)) && rest) ≡ (accepted && (verdict && rest))
 one_more true true rest = refl
 one_more true false rest = refl
@@ -199,7 +199,7 @@ each_functions texts m = record {
   passes = λ s matches a. refusals_pass texts a (all_items s) (holds_by s (λ q. (a q).verdict));
 }
 
--- ---- it asks for verdicts alone
+-- ---- it requests only verdicts
 
 step_for_less : (n : ℕ) → AsksForLess (step_left n)
 step_for_less zero = tt

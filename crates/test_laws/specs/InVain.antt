@@ -1,5 +1,5 @@
--- A keyword that accepts every instance, and asks its only child in vain: it drops the reply. So,
--- whatever it requests, it keeps each law but those about requests.
+-- A keyword that accepts every instance, and asks its only child in vain: it drops the reply. So it
+-- keeps every law except those about requests, whatever it requests.
 use Rattle.std.proofs.Common.{◌≡◌, ℕ, zero, suc, ◌<◌, ◌⊎◌, ◌∷◌, [], List, Bool, true, false, refl, arith, inl, inr}
 use Rattle.std.specs.Prelude.{if◌then◌else◌, ⊤}
 use Rattle.std.proofs.lemmas.List.Elements.{All-nil, All-cons}
@@ -18,7 +18,7 @@ use Rattle.schema_traits.specs.UnitQuestions.{AlwaysAsksForLess, AsksForLess, As
 abbrev pub only_child : Question
 only_child = record { child = 0; below = here }
 
--- a turn asks if none before did
+-- a turn asks, unless one before it has asked
 abbrev pub step_vain : Mode → Bool → Turn
 step_vain asked has_asked = if has_asked then done else ask only_child asked
 
@@ -121,7 +121,7 @@ always_for_less asked texts m s (suc n) r reply h = (step_for_less asked r.0 h, 
 pub vain_units : (asked : Mode) → IsLess asked → (texts : Bool) → AsksNoUnits (vain_words asked texts)
 vain_units asked h texts m s mode none = always_for_less asked texts m s 2 (false, fresh mode) no_reply h
 
--- ---- it requests verdicts alone, if its request is for verdicts
+-- ---- it requests only verdicts, if its request is for a verdict
 
 step_for_verdict : (has_asked : Bool) → AsksVerdict (step_vain for_verdict has_asked)
 step_for_verdict true = tt

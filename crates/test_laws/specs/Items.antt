@@ -1,5 +1,5 @@
--- `x-items`: each item accepts, by the run's mode; and `type` with the value "array": the instance
--- is an array.
+-- `x-items`, which holds if each item accepts, and passes on their answers in the run's mode; and
+-- `type` with the value "array", which holds if the instance is an array.
 use Rattle.std.proofs.Common.{ℕ, ◌+◌, zero, suc, Bool, true, false, [], None, Option, Some, refl}
 use Rattle.std.specs.Prelude.{codes, ◌++◌}
 use Rattle.theory_definitions.specs.Instance.{Subject, Text}

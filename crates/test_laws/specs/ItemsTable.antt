@@ -20,7 +20,7 @@ use Rattle.test_laws.specs.declared.items_table.ItemsMaker.TheVariants as maker
 abbrev pub own_name : Text
 own_name = codes "x-items"
 
--- the end, with the keyword's value before it
+-- the end of the script; the same after the keyword's value; and that after a reserved number
 abbrev pub makes_items : Script ItemsPlan
 makes_items = then_end (a_keyword EachItem [])
 

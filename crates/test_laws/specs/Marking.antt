@@ -1,6 +1,6 @@
--- A keyword type that marks a number that its maker was given while it works. Its run marks the
--- number, whatever the answer to the mark is, goes on as a run of another keyword type, which marks
--- nothing, and removes the mark at the end. Its meaning is that of the other type.
+-- A keyword type that, while it works, marks a number that its maker was given. Its run marks the
+-- number and, whatever the answer to the mark is, goes on as a run of another keyword type, which
+-- marks nothing. At the end it removes the mark. Its meaning is that of the other type.
 use Rattle.std.proofs.Common.{◌≡◌, ℕ, zero, suc, ◌+◌, ◌<◌, ◌⊎◌, [], List, Bool, true, false, refl, ap, arith, inl, inr}
 use Rattle.std.specs.Prelude.{if◌then◌else◌}
 use Rattle.theory_definitions.specs.Instance.{Subject, Text}
@@ -90,7 +90,7 @@ module _ {M P : Type 0} (marks : M → Bool) (other : Bool → Keywords M (P × 
     abbrev pub can_be : Bool → M → Subject → Run → Type 0
     can_be texts m s r = other_can texts m s (inside r)
 
-    -- the state of the other run, which has no marks and was given this reply
+    -- the state of the other run, which has no marks, with this reply
     abbrev pub seen : Standing Run → Reply → Standing (P × Answer)
     seen x reply = record { subject = x.subject; matches = x.matches; answers = x.answers; unit_at = x.unit_at; same = x.same; marks = []; state = inside x.state; reply = reply }
 
@@ -265,7 +265,7 @@ module _ {M P : Type 0} (marks : M → Bool) (other : Bool → Keywords M (P × 
           passes = l.passes;
         }
 
-  -- ---- units are requested where the other type requests them
+  -- ---- it requests units only if the other type does
 
   module _ (Less : P × Answer → Type 0) (less_turn : (texts : Bool) (m : M) (s : Subject) (r : P × Answer) (reply : Reply) → Less r → Less ((other texts).turn m s r reply))
       (less_step : (texts : Bool) (m : M) (s : Subject) (r : P × Answer) (reply : Reply) → Less r → AsksForLess ((other texts).step m s r reply)) where

@@ -1,7 +1,7 @@
 //! A keyword with two children that holds if both accept.
 //!
-//! Its run marks each child. It skips the second if that is marked already, since it then is the
-//! first one again.
+//! Its run marks each child. It skips the second if that is marked already, since then it is the
+//! same node as the first.
 ghost use Rattle.std.specs.Prelude.{◌≡◌, Bool};
 ghost use Rattle.schema_traits.specs.KeywordViews.{reply_of};
 ghost use Rattle.test_laws.specs.BothOnce.{says_yes};

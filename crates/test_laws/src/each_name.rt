@@ -39,7 +39,7 @@ impl Model for EachNameShape {
 
 /// Returns the name after this many others among an object's members.
 ///
-/// The object holds the name.
+/// The name is borrowed from the object.
 #[tactic(auto, using(crate::proofs::NamesPast::none_left))]
 fn name_after<'i>(members: &'i Map<String, Value>, others: usize) -> Option<&'i str>
     ensures name { text_read result ≡ first_name (drop others (names_in (fields members.now))) }
@@ -56,7 +56,7 @@ fn name_after<'i>(members: &'i Map<String, Value>, others: usize) -> Option<&'i 
 
 /// Returns the name at this place among an object's members.
 ///
-/// The object holds the name.
+/// The name is borrowed from the object.
 #[tactic(auto, using(crate::proofs::NamesPast::names_past))]
 fn name_of<'i>(members: &'i Map<String, Value>, place: usize) -> Option<&'i str>
     ensures name { text_read result ≡ first_name (drop place (names_in (fields members.now))) }
@@ -70,7 +70,7 @@ fn name_of<'i>(members: &'i Map<String, Value>, place: usize) -> Option<&'i str>
 
 /// Returns the name at this place among the instance's members.
 ///
-/// The instance holds the name.
+/// The name is borrowed from the instance.
 fn name_in<'i>(instance: Instance<'i>, place: usize) -> Option<&'i str>
     ensures name { text_read result ≡ first_name (names_from place (subject_of instance.entry)) }
     ensures below { IfSome result (λ _. place < usize.MAX) }

@@ -1,7 +1,7 @@
 //! The keywords `x-items`, and `type` with the value "array".
 //!
-//! The value of `x-items` is a schema that each item of an array is validated against. A run of
-//! `x-items` marks the number that its maker was given while it asks.
+//! The value of `x-items` is a schema that each item of an array is validated against. While a run
+//! of `x-items` asks, it marks the number that its maker was given.
 ghost use Rattle.std.specs.Prelude.{◌≡◌, Bool, IfOk, true};
 ghost use Rattle.schema_reports.specs.InstanceViews.{subject_of};
 ghost use Rattle.schema_traits.specs.KeywordViews.{Tells, answer_of, reply_of, turn_of};
@@ -21,7 +21,7 @@ use schema_traits::keyword::{Answer, Marked, Mode, Reply, Step, Validate};
 use schema_traits::numbers::PendingSchemaNode;
 use std::alloc::Global;
 
-/// The way a keyword handles an instance.
+/// The keywords, by how they handle an instance.
 #[derive(Clone, Copy)]
 pub enum ItemsPlan {
     /// `type` with the value "array".
@@ -102,7 +102,7 @@ impl ItemsKeyword {
         }
     }
 
-    // Takes a turn of the run that works.
+    // Takes a turn of the run of the planned keyword.
     fn work<'s, 'i: 's>(
         &'s self,
         alloc: Global,

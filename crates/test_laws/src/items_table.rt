@@ -1,7 +1,7 @@
 //! The table of `x-items` and `type`.
 //!
-//! `type` is made as if its value were "array". The maker of `x-items` requests the number that is
-//! pending for items of its object, reserves one if there is none, and requests its value.
+//! `type` is made as if its value were "array". The maker of `x-items` asks for the number that is
+//! pending for items of its object, reserves one if there is none, and has its value compiled.
 ghost use Rattle.std.specs.Prelude.{◌≡◌, ◌∷◌, [], IfOk};
 ghost use Rattle.theory_definitions.specs.Instance.{to_member};
 ghost use Rattle.schema_traits.specs.MakerViews.{maker_reply_of};

@@ -1,12 +1,14 @@
 //! Keyword types that keep the laws, as a test of the laws.
 //!
-//! - The run of one has no state at all.
-//! - The run of one counts what is left of a length that it stores at the beginning.
-//! - One marks its children and skips one that is marked already.
-//! - One asks its child and drops the reply.
-//! - One requests matches at the names of an object's members.
+//! - `refusing`: the run has no state at all.
+//! - `each_item`: the run counts what is left of a length that it stores at the beginning.
+//! - `both_once`: the run marks its children, and skips one that is marked already.
+//! - `in_vain`: the run asks its child and drops the reply.
+//! - `each_name`: the run requests matches at the names of an object's members.
+//! - `items`: the run marks a number that its maker was given.
 //!
-//! The crate also has a table that refuses with the text of a value that may contain a fraction.
+//! The crate also has a table, `printing_table`, that refuses with the text of a value that may
+//! contain a fraction.
 #![tactic(auto)]
 
 pub mod both_once;

@@ -7,7 +7,7 @@ use schema_traits::keyword::Step;
 
 /// What a run does in its next turn.
 ///
-/// It marks the number; it begins to work, since its mark was answered; it works; or it is over.
+/// It marks the number, begins to work after the reply to its mark, works, or is over.
 #[derive(Clone, Copy)]
 pub enum Stage {
     Marks,

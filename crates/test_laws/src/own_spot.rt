@@ -1,4 +1,4 @@
-//! Matches that are requested at the keyword itself, one step below it.
+//! Matches that are requested at the keyword itself, one step below its place in the instance.
 ghost use Rattle.std.specs.Prelude.{◌≡◌, string_bytes, true};
 ghost use Rattle.theory_definitions.specs.Keywords.{match_text};
 ghost use Rattle.schema_traits.specs.KeywordViews.{turn_of};

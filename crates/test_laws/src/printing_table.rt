@@ -1,6 +1,6 @@
 //! A table that refuses the value of each member, with the value's own text.
 //!
-//! That text has the digits of fractions. The table makes no keyword, so it is a table for every
+//! That text shows the digits of fractions. The table makes no keyword, so it is a table for every
 //! keyword type.
 ghost use Rattle.std.specs.Prelude.{◌≡◌, IfOk, false, not, string_bytes};
 ghost use Rattle.serde_json.specs.Find.{get_member};
@@ -31,7 +31,7 @@ pub enum PrintingMaker {
     Nothing,
 }
 
-// Returns the error without its text.
+// Returns the error for a value, with this text.
 fn located(
     alloc: Global,
     name: &String,

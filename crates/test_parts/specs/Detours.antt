@@ -39,7 +39,7 @@ matches_before ps for_units = 0
 abbrev pub pattern_at : List Text → ℕ → Text
 pattern_at ps k = unwrap_or (slice_get ps k) []
 
--- the text that is matched; it is empty if the instance is no text
+-- the text that is matched; it is empty if the instance is not a text
 abbrev pub text_in : Subject → Text
 text_in s = unwrap_or (subject_string s) []
 

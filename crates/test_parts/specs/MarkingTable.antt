@@ -6,6 +6,6 @@ use Rattle.keyword_makers.specs.ByValue.{MadeMember}
 use Rattle.keyword_makers.specs.declared.by_value.Children.TheVariants as children
 use Rattle.keyword_makers.specs.declared.by_value.MemberKeyword.TheVariants.{Keyword, Nothing}
 
--- every other member makes no keyword
+-- `allOf` makes the keyword, with its items as children, and every other member makes none
 abbrev pub made : Text → Data → MadeMember ⊤
 made name value = if bytes_eq name (codes "allOf") then Keyword tt children.Items else Nothing

@@ -1,4 +1,4 @@
-//! Vocabularies, more of which are required by one draft alone.
+//! Required vocabularies, with one more in only one draft.
 use schema_drafts::keywords::{Vocabulary, VocabularySet};
 use schema_reports::location::OutOfMemory;
 use standard_resolver::DraftVocabularies;
@@ -9,7 +9,7 @@ fn with_custom(alloc: Global, usual: VocabularySet) -> Result<VocabularySet, Out
     usual.with(Vocabulary::Custom(uri?))
 }
 
-/// Returns the usual vocabularies; 2019-09 alone requires a custom one too.
+/// Returns the usual vocabularies, with a custom one that only 2019-09 requires.
 ///
 /// # Errors
 ///

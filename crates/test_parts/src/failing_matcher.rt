@@ -1,6 +1,4 @@
-//! A matcher whose engine fails, and which once runs out of memory.
-//!
-//! It does so at a question of its own choice.
+//! A matcher whose engine fails, and which runs out of memory once, at a chosen question.
 use schema_reports::location::OutOfMemory;
 use schema_traits::matcher::Matcher;
 use std::alloc::{AllocError, Global};

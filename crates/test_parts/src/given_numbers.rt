@@ -49,7 +49,7 @@ fn push_numbers<K: Numbered>(
     Ok(())
 }
 
-/// Adds a stroke for each node, and then the words of all.
+/// Adds a stroke for each node, and then the words of all nodes.
 pub fn push_nodes<K: Numbered>(nodes: &Nodes<K>, log: &mut String) -> Result<(), OutOfMemory> {
     for _ in 0..nodes.len() {
         log.push_str("|")?;

@@ -1,6 +1,6 @@
 //! A resolver whose state grows by one with each lookup.
 //!
-//! A schema that refers to itself never comes back to a key.
+//! With it, a schema that refers to itself never reaches a key twice.
 ghost use Rattle.std.specs.Prelude.{◌≡◌, MatchResult, Ok};
 ghost use Rattle.schema_traits.specs.ResolverViews.{Refuses, found_of};
 ghost use Rattle.test_parts.specs.Growing.{next};

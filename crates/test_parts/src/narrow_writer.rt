@@ -3,14 +3,14 @@ use schema_reports::location::OutOfMemory;
 use std::io;
 use std::io::{ErrorKind, Write};
 
-/// A writer that takes this many bytes, one at a time, and then refuses.
+/// A writer that takes `room` bytes, one at a time, and then refuses.
 ///
-/// Its flush refuses too, unless `flushes` is set.
+/// Its flush refuses unless `flushes` is set.
 #[derive(Drop)]
 pub struct NarrowWriter {
-    /// The number of bytes that it takes.
+    /// The bytes that it has taken.
     pub taken: Vec<u8>,
-    /// The number of bytes that it still takes.
+    /// The number of bytes that it takes in all.
     pub room: usize,
     /// Whether it can be flushed.
     pub flushes: bool,
@@ -36,7 +36,7 @@ impl Write for NarrowWriter {
     }
 }
 
-/// Returns these bytes as a text, if they are one.
+/// Returns these bytes as text, or `no text` if they are not UTF-8.
 fn text_of(bytes: &[u8]) -> &str {
     str::from_utf8(bytes).unwrap_or("no text")
 }

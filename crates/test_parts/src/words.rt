@@ -6,8 +6,8 @@ use std::env::{Env, FillError};
 
 /// Returns the bytes of a word.
 ///
-/// They are those of a text, some that are not UTF-8 for `null`, and otherwise those of the JSON
-/// text.
+/// For a text they are its own bytes, for `null` some that are not UTF-8, and otherwise those of
+/// the value as JSON.
 fn word_of(alloc: Global, word: &Value) -> Result<Vec<u8>, OutOfMemory> {
     match word {
         Value::Null => Vec::from_slice(alloc, &[34, 255, 34]),
@@ -16,7 +16,7 @@ fn word_of(alloc: Global, word: &Value) -> Result<Vec<u8>, OutOfMemory> {
     }
 }
 
-/// Returns the words in a list, after these.
+/// Returns these words, followed by the words in a list.
 ///
 /// # Errors
 ///

@@ -1,8 +1,8 @@
 //! Facts that no clause states and that a check computes.
 //!
-//! They are the sizes of the values that a run moves, and the two marks of keywords that accept
-//! `null`. An evaluation, an error and a unit are each in a box alone, so that an answer, a reply
-//! and a keyword's request are a few words long in every mode.
+//! They are the sizes of the values that a run moves, and the two marks that say whether a keyword
+//! accepts `null`. An evaluation, an error and a unit are each in a box of their own, so that an
+//! answer, a reply and a keyword's request are a few words long in every mode.
 
 use schema_drafts::keywords::{NotNullable, Nullability, Nullable};
 use schema_reports::location::OutOfMemory;
@@ -16,9 +16,9 @@ const _: () = prove!(size_of::<Reply<'static>>() <= 32);
 // (an enum has a tag of its own, so the result of a reply is one word longer)
 const _: () = prove!(size_of::<Result<Reply<'static>, OutOfMemory>>() <= 40);
 
-// (a match at a spot is the largest request of a step: the part that the keyword owns, the subject,
+// (the largest request of a step is a match at a spot: the part that the keyword owns, the subject,
 // and a step below the spot by the instance's own name, which takes three of the seven words; so no
-// turn allocates a place to ask at)
+// turn allocates the place of its question)
 const _: () = prove!(size_of::<Step<'static>>() <= 56);
 
 // (the result of a turn is one word longer, too)

@@ -1,8 +1,8 @@
 //! The answers of a `Context` that no call of the engine requests.
 //!
 //! A table's makers may request them, so no row of `test_check_rows` covers them. They include
-//! whether formats are checked: by the option, or else by the vocabularies, or in the drafts before
-//! 2019-09.
+//! whether formats are checked: the option decides, or else the vocabularies, or the draft if it is
+//! before 2019-09.
 use schema_drafts::keywords::{Draft, Vocabulary, VocabularySet};
 use schema_keys::context::Context;
 use schema_keys::key::SchemaKey;
@@ -69,7 +69,7 @@ fn push_located<R: Resolver>(context: &Context<R>, log: &mut String) -> Result<(
     }
 }
 
-/// Adds the absolute location by the value that was kept for it.
+/// Adds the absolute location, resolved from the value that is kept for it.
 fn push_located_later<R: Resolver>(
     context: &Context<R>,
     log: &mut String,
@@ -90,11 +90,11 @@ fn where_true(holds: bool, word: &str) -> &str {
     if holds { word } else { "" }
 }
 
-/// Adds the end of the location, and what the context knows.
+/// Adds the end of the location, and other answers of the context.
 ///
-/// The end follows the part that the last reference gave. The context knows whether numbers with an
-/// integer's value are integers, which of three vocabularies are in force, and whether formats are
-/// checked.
+/// The end comes after the part that the last reference leads to. The other answers are whether
+/// numbers with an integer's value are integers, which of three vocabularies are in force, and
+/// whether formats are checked.
 fn push_known<R: Resolver>(context: &Context<R>, log: &mut String) -> Result<(), OutOfMemory> {
     let words = [
         " ",
@@ -186,15 +186,15 @@ pub(crate) fn tell_context(
     told
 }
 
-// The absolute location twice, the end of the location after the part that the last reference gave,
-// and what is known; then schema, URI of a document, draft (0 for an unknown one), vocabulary in
-// force, whether formats are to be checked, location, the part of it that the last reference gave,
-// and the number of its bytes outside the resource.
+// The answers: the absolute location twice, the end of the location after the part that the last
+// reference leads to, and the others. Then schema, URI of a document, draft (0 for an unknown one),
+// vocabulary in force, whether formats are to be checked, location, the part of it that the last
+// reference leads to, and the number of its bytes outside the resource.
 //
 // The first two rows are in a resource inside another. In the drafts before 2019-09 each vocabulary
-// is in force, and formats are checked; in draft 4 the number 1.0 is no integer. The other rows are
-// at a root whose URI is not shown. The option not to check formats holds in every draft, whatever
-// vocabulary is in force.
+// is in force, and formats are checked; in draft 4 the number 1.0 is not an integer. The other rows
+// are at a root whose URI is not shown. The option not to check formats holds in every draft,
+// whatever vocabulary is in force.
 pub(crate) const CONTEXTS: &str = r##"[
 ["http://x/e#/$defs/t http://x/e#/$defs/t /$defs/t integers core validation",
  {"$defs":{"e":{"$id":"http://x/e","$defs":{"t":{"type":"string"}}}}},

@@ -33,7 +33,7 @@ fn of_numbers(question: &str, left: &Number, right: &Number) -> &'static str {
     }
 }
 
-/// Returns the answer of both methods to whether all items are distinct.
+/// Returns whether all items are distinct, by both methods.
 fn of_items(alloc: Global, items: &[Value]) -> Result<&'static str, OutOfMemory> {
     let distinct = are_all_distinct(alloc, items)?;
     if distinct != are_all_distinct_by_pairs(items) {
@@ -42,9 +42,9 @@ fn of_items(alloc: Global, items: &[Value]) -> Result<&'static str, OutOfMemory>
     Ok(yes_or_no(distinct))
 }
 
-/// Adds the text of a held value, and two comparisons.
+/// Adds the text of a copy of a held value, and two comparisons.
 ///
-/// They are whether its copy equals a value, and whether it is the text that a value is not.
+/// They are whether the copy equals the other value, and whether it is the text `x`.
 fn push_held(
     alloc: Global,
     value: &Value,
@@ -76,8 +76,8 @@ pub(crate) fn tell_values(alloc: Global, row: &Value, log: &mut String) -> Resul
     }
 }
 
-// The answer, the question, and one value or two. `multiple` is exact, so decimals whose nearest
-// floats are no multiples are none; `rounded` has the rows of the official test suite's
+// The answer, the question, and one value or two. `multiple` is exact, so a decimal is a multiple
+// only if its nearest float is one. `rounded` has the rows of the official test suite's
 // `multipleOf.json` and `float-overflow.json`.
 pub(crate) const VALUES: &str = r##"[
 ["greater", "order", 9007199254740993, 9007199254740992.0],

@@ -9,9 +9,9 @@ use serde_json::Value;
 use std::alloc::Global;
 use test_rows::tables::{column, list_at, text_at};
 
-/// Requests the path of a turn's keyword after this one so many times.
+/// Requests the path of a turn's keyword below `path`, as many times as the turn says.
 ///
-/// Adds how many paths are then kept.
+/// Then adds how many paths are kept.
 fn push_kept(
     alloc: Global,
     kept: &mut KeptPaths,
@@ -26,7 +26,7 @@ fn push_kept(
     write!(log, "{count};")
 }
 
-/// Like `push_kept`, for the path that a turn names, which continues this one.
+/// Like `push_kept`, for the path that a turn names.
 fn push_turn(
     alloc: Global,
     kept: &mut KeptPaths,

@@ -101,9 +101,9 @@ fn keyword_named(alloc: Global, name: &str) -> Result<Keyword, OutOfMemory> {
     })
 }
 
-/// Adds this keyword of a row's name.
+/// Adds the name of a row's keyword.
 ///
-/// If it is not as the row says, a word comes before it.
+/// If the keyword is not as the row says, `another` comes before it.
 fn push_keyword(
     alloc: Global,
     keyword: &Keyword,
@@ -118,7 +118,6 @@ fn push_keyword(
     log.push_str(keyword.as_str())
 }
 
-/// Adds the keyword of a row, by the row alone.
 pub(crate) fn tell_keyword(
     alloc: Global,
     row: &Value,
@@ -138,9 +137,9 @@ fn drafts_rise(rt: HostRuntime) {
 }
 
 // Name, priority, leaf, and a cell for each of the drafts 4, 6, 7, 2019-09 and 2020-12: `-` if the
-// keyword is absent, `F` if it has no need, `D` if it has no need and draft 4's form, or the
-// vocabulary that it needs: `V` (validation), `A` (applicator), `U` (unevaluated), or `C` (content,
-// as an annotation). Keywords of priority 80 are custom ones.
+// keyword is absent, `F` if it needs no vocabulary, `D` if it needs none and has draft 4's form, or
+// the vocabulary that it needs: `V` (validation), `A` (applicator), `U` (unevaluated), or `C`
+// (content, as an annotation). Keywords of priority 80 are custom ones.
 pub(crate) const KEYWORDS: &str = r##"[
 ["type", 1, true, "D", "V", "V", "V", "V"],
 ["const", 5, true, "-", "V", "V", "V", "V"],

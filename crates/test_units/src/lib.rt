@@ -2,8 +2,7 @@
 //!
 //! They test the answers of a `Context` to a table's makers, the number of evaluation paths that
 //! are kept, the standard's keywords as they are published, numbers and equality of values, sizes
-//! in bytes, and public calls that nothing else makes. A row begins with the text that is wanted of
-//! it.
+//! in bytes, and public calls that nothing else makes. A row begins with the text that is wanted.
 #![tactic(auto)]
 
 #[cfg(test)]

@@ -19,7 +19,7 @@ fn add_two(alloc: Global, nodes: &mut Nodes<usize>) -> Result<(), OutOfMemory> {
     Ok(())
 }
 
-/// Returns how many nodes there are then.
+/// Returns how many nodes there are after `add_two`.
 fn count_nodes(alloc: Global) -> Result<usize, OutOfMemory> {
     let mut nodes: Nodes<usize> = Nodes::new(alloc);
     let added = add_two(alloc, &mut nodes);
@@ -49,7 +49,7 @@ fn is_valid_of_one(alloc: Global) -> Result<bool, OutOfMemory> {
     Ok(result.is_valid())
 }
 
-/// Returns whether a match that was met is known, and is no if it is met again.
+/// Returns whether a match that was met is known as unfinished, and is no if met again.
 fn comes_out_again(alloc: Global, met: &mut MatchAssumptions<'_>) -> Result<bool, OutOfMemory> {
     if !met.is_unfinished("p", "s") {
         return Ok(false);
