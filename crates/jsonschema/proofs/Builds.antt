@@ -1,4 +1,4 @@
--- The clauses of a build, put together; and what a resolver of the sources builds from them.
+-- The clauses of a build, put together, and those of a build from sources.
 use Rattle.std.proofs.Common.{Err, IfErr, IfOk, List, Ok, Result, ap, inl, inr, subst, ◌∙◌, ◌≡◌, ◌⊎◌}
 use Rattle.serde_json.specs.Data.{Data}
 use Rattle.serde_json.specs.View.{view}

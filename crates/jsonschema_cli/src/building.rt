@@ -76,7 +76,7 @@ fn sources_of<'a>(
     with_documents(alloc, sources, documents)?.with_meta_schemas(alloc, metas)
 }
 
-/// Returns what the user can do about a refusal of the schema.
+/// Returns advice to the user about a refusal of the schema.
 fn hint_of(refused: &BuildError) -> &'static str {
     match refused {
         BuildError::NotASchema(_) => "a schema is an object, true or false",

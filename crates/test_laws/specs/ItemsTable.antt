@@ -62,7 +62,7 @@ AsksValue (step.Keyword keyword names) made = ⊥
 AsksValue step.Nothing made = ⊥
 AsksValue (step.Refuse error) made = ⊥
 
--- whether a reply gives a number
+-- there is a number exactly if the reply holds one: a pending or a reserved one
 abbrev pub Given : Option PendingSchemaNode → Told → Type 0
 Given (Some n) one_pending = Unit {0}
 Given (Some n) a_reserved = Unit {0}

@@ -164,7 +164,7 @@ module _ {M P : Type 0} (marks : M → Bool) (other : Bool → Keywords M (P × 
       asks texts m s stage.Works r reply can = shown_asks texts m s (marks m) _ ((laws texts m).asks s r reply can)
       asks texts m s stage.Over r reply can = tt
 
-      -- the other run, after a turn that asked this, and this run
+      -- the other run after a turn with this step, and then this run after it
       abbrev their_next : Bool → M → Standing (P × Answer) → Turn → Standing (P × Answer)
       their_next texts m y t = record y {
         marks = marks_after (other texts) m y.subject y.matches y.answers y.unit_at y.same y.marks t;
