@@ -15,7 +15,7 @@ const BETWEEN: u64 = 1000;
 pub struct Watch {
     /// `None` if the clock cannot be read.
     pub begun: Option<Instant>,
-    /// The milliseconds from the beginning to the last report, or 0 before the first.
+    /// The milliseconds from the beginning to the last report, or 0.
     pub told: u64,
 }
 

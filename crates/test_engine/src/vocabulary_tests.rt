@@ -62,7 +62,7 @@ fn tell_name<K: Validate, T: KeywordTable<K>, R: Resolver, M: Matcher>(
     }
 }
 
-/// Like `tell_name`, with a resolver by which only 2019-09 requires the vocabulary.
+/// Like `tell_name`, with a vocabulary that only 2019-09 requires.
 pub(crate) fn tell_names(alloc: Global, row: &Value, log: &mut String) -> Result<(), OutOfMemory> {
     let by_draft = requiring_in_2019_09(alloc)?;
     let vocabularies = VocabularySet::new(alloc);

@@ -9,7 +9,7 @@ fn with_custom(alloc: Global, usual: VocabularySet) -> Result<VocabularySet, Out
     usual.with(Vocabulary::Custom(uri?))
 }
 
-/// Returns the usual vocabularies, with a custom one that only 2019-09 requires.
+/// Returns the usual vocabularies, and a custom one that only 2019-09 requires.
 ///
 /// # Errors
 ///

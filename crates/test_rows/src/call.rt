@@ -17,7 +17,9 @@ pub enum Question {
     List,
     /// The errors of the evaluation, each with its evaluation path and text.
     EvaluationErrors,
-    /// The number of units in the list, how many have errors, and the path of the last one.
+    /// The size of the list.
+    ///
+    /// It is the number of units, how many have errors, and the evaluation path of the last one.
     ListCount,
     /// The number of errors, and the first and the last of them.
     ErrorsCount,

@@ -108,7 +108,7 @@ pub fn count_wrong(verdicts: &[bool]) -> usize
     verdicts.iter().filter(|right| !**right).count()
 }
 
-/// Returns the last line of a report: the number of rows, and how many are wrong.
+/// Returns the last line: the number of rows, and how many of them are wrong.
 ///
 /// # Errors
 ///

@@ -9,9 +9,9 @@ use serde_json::Value;
 use std::alloc::Global;
 use test_rows::tables::{column, list_at, text_at};
 
-/// Requests the path of a turn's keyword below `path`, as many times as the turn says.
+/// Requests the path of a turn's keyword as many times as the turn says.
 ///
-/// Then adds how many paths are kept.
+/// The keyword's path continues `path`. Then adds how many paths are kept.
 fn push_kept(
     alloc: Global,
     kept: &mut KeptPaths,

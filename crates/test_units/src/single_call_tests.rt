@@ -49,7 +49,7 @@ fn is_valid_of_one(alloc: Global) -> Result<bool, OutOfMemory> {
     Ok(result.is_valid())
 }
 
-/// Returns whether a match that was met is known as unfinished, and is no if met again.
+/// Returns whether a match that was met is known, and answers no if met again.
 fn comes_out_again(alloc: Global, met: &mut MatchAssumptions<'_>) -> Result<bool, OutOfMemory> {
     if !met.is_unfinished("p", "s") {
         return Ok(false);
