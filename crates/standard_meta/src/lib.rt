@@ -6,4 +6,5 @@
 pub mod documents;
 pub mod error;
 pub mod meta;
+mod no_meta;
 pub mod wholeness;

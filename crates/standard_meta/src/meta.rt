@@ -9,8 +9,8 @@ ghost use Rattle.schema_drafts.specs.KeywordViews.{draft_of};
 
 use crate::documents::{MetaDocument, MetaDocuments};
 use crate::error::MetaError;
+use crate::no_meta::NoMeta;
 use crate::wholeness::StandardFractions;
-use bench_parts::meta::BenchMeta;
 use meta_checker::checker::Checker;
 use meta_checker::drafts::{CheckerMaker, DraftCheckers};
 use regex_matcher::matcher::RegexMatcher;
@@ -80,7 +80,7 @@ fn validator_of<'p>(
 {
     let options = ValidationOptions::new(alloc).should_validate_schema(false);
     let table = StandardTable::new();
-    options.build(alloc, &root.value, &table, resolver, matcher, &BenchMeta {})
+    options.build(alloc, &root.value, &table, resolver, matcher, &NoMeta {})
 }
 
 fn checker_of<'p>(

@@ -1,0 +1,26 @@
+//! Meta validators that check nothing.
+use schema_drafts::keywords::Draft;
+use schema_reports::location::OutOfMemory;
+use schema_reports::reports::ValidationError;
+use schema_traits::meta::MetaValidators;
+use serde_json::Value;
+use std::alloc::Global;
+
+/// Accepts every schema, for the build of the meta-schemas, which asks for no check.
+#[derive(Drop)]
+pub(crate) struct NoMeta {}
+
+impl MetaValidators for NoMeta {
+    ghost use Rattle.std.specs.Prelude.{None};
+
+    ghost checked = { λ _ _ _ _. None };
+
+    fn check<'v>(
+        &self,
+        alloc: Global,
+        draft: Draft,
+        schema: &'v Value,
+    ) -> Result<Option<ValidationError<'v>>, OutOfMemory> {
+        Ok(None)
+    }
+}
