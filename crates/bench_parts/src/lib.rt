@@ -3,6 +3,9 @@
 //! They keep the laws of the traits that they implement, such as `Matcher` and `MetaValidators`.
 #![tactic(auto)]
 
-pub mod matcher;
-pub mod meta;
+mod matcher;
+mod meta;
 mod meta_place;
+
+pub use matcher::BenchMatcher;
+pub use meta::BenchMeta;

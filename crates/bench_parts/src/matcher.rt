@@ -4,12 +4,11 @@ ghost use Rattle.std.specs.List.{list_any};
 ghost use Rattle.bench_parts.specs.BenchMatching.{begins_with, contains_text};
 ghost use Rattle.schema_traits.specs.Readings.{AddsTexts};
 
-use schema_reports::location::OutOfMemory;
-use schema_reports::text::Text;
-use schema_traits::matcher::Matcher;
+use schema_reports::{OutOfMemory, Text};
+use schema_traits::Matcher;
 use std::alloc::{AllocError, Global};
 use std::marker::Model;
-use unfinished_matches::site::{Match, Reason};
+use unfinished_matches::{Match, Reason};
 
 /// A matcher that leaves some patterns unfinished.
 ///

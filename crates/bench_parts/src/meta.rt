@@ -15,11 +15,9 @@ ghost use Rattle.bench_parts.specs.MetaPlaces.{steps_to};
 ghost use Rattle.schema_traits.specs.Readings.{fields};
 
 use crate::meta_place::MetaPlace;
-use schema_drafts::keywords::Draft;
-use schema_reports::instance::{Instance, InstanceStep, Place};
-use schema_reports::location::{Location, OutOfMemory};
-use schema_reports::reports::ValidationError;
-use schema_traits::meta::MetaValidators;
+use schema_drafts::Draft;
+use schema_reports::{Instance, InstanceStep, Location, OutOfMemory, Place, ValidationError};
+use schema_traits::MetaValidators;
 use serde_json::{Map, Value};
 use std::alloc::Global;
 

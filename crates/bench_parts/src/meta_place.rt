@@ -6,8 +6,7 @@ ghost use Rattle.schema_reports.specs.InstanceViews.{step_of};
 ghost use Rattle.bench_parts.specs.MetaPlaces.{steps_to};
 ghost use Rattle.schema_traits.specs.Showing.{Yields};
 
-use schema_reports::instance::{InstanceStep, Place};
-use schema_reports::location::OutOfMemory;
+use schema_reports::{InstanceStep, OutOfMemory, Place};
 use std::alloc::Global;
 
 /// A place: the root, or the place above it and a step.

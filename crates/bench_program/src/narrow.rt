@@ -7,12 +7,11 @@ ghost use Rattle.standard_subschemas.specs.SubschemaRules.{document_uri};
 ghost use Rattle.standard_resolver.specs.ResolverAnswers.{HasRoot, FindsRoot};
 ghost use Rattle.standard_resolver.specs.ResolverHolds.{Customs, Defaults, Drafts, GoesBy, Holds, IsUnder, Others};
 
-use schema_drafts::keywords::{Draft, VocabularySet};
-use schema_reports::location::OutOfMemory;
+use schema_drafts::{Draft, VocabularySet};
+use schema_reports::OutOfMemory;
 use serde_json::Value;
 use standard_resolver::{Document, DocumentResolver, Rule};
-use standard_subschemas::drafts::detected;
-use standard_subschemas::identifiers::{identifier, without_fragment};
+use standard_subschemas::{detected, identifier, without_fragment};
 use std::alloc::Global;
 
 /// Makes a resolver of one document by the narrow rule, in a default draft.

@@ -1,12 +1,11 @@
 //! Cases: a schema, documents that its references may lead to, and instances.
 
-use bowtie_protocol::cases::{Case, Engine, Judge};
+use bowtie_protocol::{Case, Engine, Judge};
 use jsonschema::{
     BuildError, MetaDocuments, PatternError, Patterns, Sources, StandardMeta, StandardValidator,
     ValidationOptions, build,
 };
-use schema_engine::keywords::Draft;
-use schema_engine::location::OutOfMemory;
+use schema_engine::{Draft, OutOfMemory};
 use serde_json::Value;
 use std::alloc::Global;
 

@@ -10,9 +10,9 @@ mod cases;
 
 use crate::cases::Harness;
 use anyhow::Result;
-use bowtie_protocol::lines::answer_lines;
+use bowtie_protocol::answer_lines;
 use jsonschema::{MetaDocuments, StandardMeta};
-use schema_engine::keywords::Draft;
+use schema_engine::Draft;
 
 /// Compiles the meta-schemas, and answers the lines.
 fn serve(rt: &HostRuntime, documents: &MetaDocuments) -> Result<()> {

@@ -1,7 +1,7 @@
 //! Cases: a schema, and the instances to validate against it.
 
 use crate::replies::{answered, fault, fault_of_test, verdict};
-use schema_drafts::keywords::Draft;
+use schema_drafts::Draft;
 use serde_json::Value;
 use std::alloc::{AllocError, Global};
 

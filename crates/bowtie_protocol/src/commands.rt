@@ -2,7 +2,7 @@
 
 use crate::cases::{Case, Engine};
 use crate::replies::{STARTED, fault, obeyed};
-use schema_drafts::keywords::Draft;
+use schema_drafts::Draft;
 use serde_json::Value;
 use std::alloc::{AllocError, Global};
 

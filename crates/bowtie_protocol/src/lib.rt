@@ -6,7 +6,10 @@
 //! what is wrong with it, and the next line is read.
 #![tactic(auto)]
 
-pub mod cases;
+mod cases;
 mod commands;
-pub mod lines;
+mod lines;
 mod replies;
+
+pub use cases::{Case, Engine, Judge};
+pub use lines::answer_lines;

@@ -3,7 +3,7 @@
 use crate::cases::Engine;
 use crate::commands::{Turn, take};
 use anyhow::Result;
-use schema_drafts::keywords::Draft;
+use schema_drafts::Draft;
 use std::io::{BufRead, BufReader};
 
 /// Answers a line, and returns whether to read another one.

@@ -9,7 +9,7 @@ use crate::line_files::answer_lines;
 use crate::options::{Options, Output};
 use crate::outcomes::Outcome;
 use crate::reports::Paint;
-use schema_reports::location::OutOfMemory;
+use schema_reports::OutOfMemory;
 use serde_json::Value;
 use std::alloc::Global;
 

@@ -6,7 +6,7 @@ ghost use Rattle.command_line.specs.Verdicts.{flag_text};
 
 use crate::options::Output;
 use crate::reports::line_fault;
-use schema_reports::location::OutOfMemory;
+use schema_reports::OutOfMemory;
 use serde_json::Value;
 use std::alloc::Global;
 

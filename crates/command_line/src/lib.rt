@@ -4,20 +4,36 @@
 //! printed for an instance or a line, the counts of lines, and the exit status.
 #![tactic(auto)]
 
-pub mod answerer;
-pub mod desk;
-pub mod documents;
-pub mod engine;
-pub mod envelopes;
-pub mod files;
-pub mod line_files;
-pub mod lines;
-pub mod options;
-pub mod outcomes;
-pub mod pages;
-pub mod reading;
-pub mod reports;
-pub mod tally;
-pub mod telling;
-pub mod watch;
-pub mod words;
+mod answerer;
+mod desk;
+mod documents;
+mod engine;
+mod envelopes;
+mod files;
+mod line_files;
+mod lines;
+mod options;
+mod outcomes;
+mod pages;
+mod reading;
+mod reports;
+mod tally;
+mod telling;
+mod watch;
+mod words;
+
+pub use answerer::{Answer, Answerer, answer_by};
+pub use desk::{Desk, Stop};
+pub use documents::{Document, documents_of};
+pub use engine::{Engine, answer_call};
+pub use envelopes::{Subject, answered, flag, unread};
+pub use lines::{cut_ending, is_blank};
+pub use options::{Options, Output, Resource, STANDARD_INPUT, draft_named};
+pub use outcomes::Outcome;
+pub use pages::Page;
+pub use reading::value_of;
+pub use reports::{Paint, fault_report, file_report, line_fault, line_report, unread_report};
+pub use tally::Tally;
+pub use telling::{tell, tell_unparsed, tell_unread};
+pub use watch::Watch;
+pub use words::{given_words, options_in, say};

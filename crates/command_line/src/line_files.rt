@@ -10,7 +10,7 @@ use crate::reports::unread_report;
 use crate::tally::Tally;
 use crate::telling::tell_unread;
 use crate::watch::Watch;
-use schema_reports::location::OutOfMemory;
+use schema_reports::OutOfMemory;
 use serde_json::Value;
 use std::alloc::AllocError;
 use std::fs;

@@ -3,7 +3,7 @@ ghost use Rattle.std.specs.Prelude.{◌≡◌, ◌++◌, ◌∷◌, IfSome, opti
 ghost use Rattle.schema_drafts.specs.KeywordViews.{draft_of};
 ghost use Rattle.command_line.specs.Choices.{draft_named, name_of, output_named};
 
-use schema_drafts::keywords::Draft;
+use schema_drafts::Draft;
 
 /// The word for standard input.
 pub const STANDARD_INPUT: &str = "-";

@@ -2,8 +2,7 @@
 ghost use Rattle.std.specs.Prelude.{◌≡◌, ◌++◌, IfOk, string_bytes};
 ghost use Rattle.command_line.specs.Verdicts.{verdict_text};
 
-use schema_reports::location::OutOfMemory;
-use schema_reports::reports::{ErrorIterator, ValidationError};
+use schema_reports::{ErrorIterator, OutOfMemory, ValidationError};
 use std::alloc::Global;
 
 /// Whether verdicts are coloured, for a terminal.

@@ -2,7 +2,7 @@
 
 use crate::desk::Stop;
 use crate::reports::fault_report;
-use schema_reports::location::OutOfMemory;
+use schema_reports::OutOfMemory;
 use std::alloc::Global;
 use std::fmt;
 

@@ -4,7 +4,7 @@ ghost use Rattle.std.specs.Prelude.{◌≡◌, ◌+◌, ◌≤◌, ◌⊎◌, If
 use crate::desk::Desk;
 use crate::options::Output;
 use crate::tally::Tally;
-use schema_reports::location::OutOfMemory;
+use schema_reports::OutOfMemory;
 use std::time::Instant;
 
 /// The milliseconds between two lines that report progress.

@@ -7,7 +7,7 @@ use crate::options::{Options, Output, Resource, draft_named};
 use crate::outcomes::Outcome;
 use clap::error::ErrorKind;
 use clap::{Arg, ArgAction, ArgMatches, Command, Error};
-use schema_reports::location::OutOfMemory;
+use schema_reports::OutOfMemory;
 use std::alloc::Global;
 use std::{env, io};
 

@@ -5,9 +5,7 @@
 //! that are made for tests and for this program.
 #![tactic(auto)]
 
-use bench_program::program::arguments::given_words;
-use bench_program::program::faults::Fault;
-use bench_program::program::{refuse, run};
+use bench_program::{Fault, given_words, refuse, run};
 use std::process::ExitCode;
 
 fn main(rt: HostRuntime) -> ExitCode {

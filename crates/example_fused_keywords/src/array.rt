@@ -14,13 +14,9 @@ ghost use Rattle.example_fused_keywords.specs.Borrowing.{BorrowsAll, KeepsAll};
 ghost use Rattle.keyword_authoring.specs.Borrowing.{Borrows, Retains};
 
 use crate::checks::Check;
-use keyword_authoring::items::item_count;
-use keyword_authoring::passing::next_number;
-use keyword_authoring::run::{Progress, Stage};
-use schema_reports::evaluation_result::EvaluationResult;
-use schema_reports::instance::Instance;
-use schema_reports::location::OutOfMemory;
-use schema_traits::keyword::{Answer, Below, Fault, Found, Mode, Reply, Step};
+use keyword_authoring::{Progress, Stage, item_count, next_number};
+use schema_reports::{EvaluationResult, Instance, OutOfMemory};
+use schema_traits::{Answer, Below, Fault, Found, Mode, Reply, Step};
 use std::alloc::Global;
 
 /// A keyword about arrays.

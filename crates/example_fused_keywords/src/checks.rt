@@ -12,12 +12,9 @@ ghost use Rattle.keyword_authoring.specs.AnswerWords.{IfTold};
 ghost use Rattle.keyword_authoring.specs.TextWords.{Adds, ShowsText};
 ghost use Rattle.example_fused_keywords.specs.Borrowing.{KeepsAll};
 
-use keyword_authoring::items::{is_list, item_count};
-use schema_reports::evaluation::ErrorDescription;
-use schema_reports::evaluation_result::{AbsorbedResult, EvaluationResult};
-use schema_reports::instance::Instance;
-use schema_reports::location::OutOfMemory;
-use schema_traits::keyword::{Fault, OwnError};
+use keyword_authoring::{is_list, item_count};
+use schema_reports::{AbsorbedResult, ErrorDescription, EvaluationResult, Instance, OutOfMemory};
+use schema_traits::{Fault, OwnError};
 use std::alloc::Global;
 
 /// A check of an instance.

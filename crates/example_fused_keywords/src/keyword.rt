@@ -1,11 +1,9 @@
 //! The keywords.
 use crate::array::ArrayKeyword;
-use keyword_authoring::run::Progress;
-use schema_reports::instance::Instance;
-use schema_reports::location::OutOfMemory;
-use schema_traits::keyword::{Answer, Mode, Reply, Step, Validate};
-use standard_basics::keyword::BasicKeyword;
-use standard_basics::names::{Names, NamesRun};
+use keyword_authoring::Progress;
+use schema_reports::{Instance, OutOfMemory};
+use schema_traits::{Answer, Mode, Reply, Step, Validate};
+use standard_basics::{BasicKeyword, Names, NamesRun};
 use std::alloc::Global;
 use std::marker::Model;
 

@@ -5,7 +5,12 @@
 //! them.
 #![tactic(auto)]
 
-pub mod array;
-pub mod checks;
-pub mod keyword;
-pub mod table;
+mod array;
+mod checks;
+mod keyword;
+mod table;
+
+pub use array::ArrayKeyword;
+pub use checks::Check;
+pub use keyword::{FusedKeyword, Shape};
+pub use table::{FusedMaker, FusedTable};

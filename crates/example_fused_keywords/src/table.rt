@@ -16,16 +16,15 @@ ghost use Rattle.schema_traits.specs.Showing.{Shows};
 
 use crate::array::ArrayKeyword;
 use crate::keyword::FusedKeyword;
-use keyword_makers::by_value::{Children, MakesByValue, MemberKeyword, TableByValue};
-use keyword_makers::maker::{Ending, PathsMaker, ends};
-use keyword_makers::paths::{value_in, value_of};
-use schema_drafts::keywords::{Draft, VocabularySet, builtin_row};
-use schema_reports::location::OutOfMemory;
-use schema_traits::table::{KeywordOrigin, KeywordTable, MakerReply, MakerStep};
+use keyword_makers::{
+    Children, Ending, MakesByValue, MemberKeyword, PathsMaker, TableByValue, ends, value_in,
+    value_of,
+};
+use schema_drafts::{Draft, VocabularySet, builtin_row};
+use schema_reports::OutOfMemory;
+use schema_traits::{KeywordOrigin, KeywordTable, MakerReply, MakerStep};
 use serde_json::{Map, Value};
-use standard_basics::keyword::BasicKeyword;
-use standard_basics::table::BasicTable;
-use standard_basics::table::schema_values::items_before;
+use standard_basics::{BasicKeyword, BasicTable, items_before};
 use std::alloc::Global;
 
 /// The basic table, with `minItems` and the `items` that absorbs others.

@@ -1,11 +1,9 @@
 //! An example of custom keywords, with their table.
 //!
 //! The keywords are `minItems` and `contains`.
-use keyword_authoring::items::{is_list, item_count};
-use keyword_authoring::planned::{Asks, Plan, Planned, PlannedKeyword};
-use keyword_makers::by_value::{Children, MakesByValue, MemberKeyword};
-use schema_reports::instance::Instance;
-use schema_reports::location::OutOfMemory;
+use keyword_authoring::{Asks, Plan, Planned, PlannedKeyword, is_list, item_count};
+use keyword_makers::{Children, MakesByValue, MemberKeyword};
+use schema_reports::{Instance, OutOfMemory};
 use serde_json::Value;
 use std::alloc::Global;
 

@@ -5,12 +5,9 @@ ghost use Rattle.std.specs.Prelude.{◌≡◌, option_map};
 ghost use Rattle.serde_json.specs.View.{view};
 ghost use Rattle.example_keywords.specs.Strings.{by_members, shape_of};
 
-use keyword_authoring::items::{is_list, item_count};
-use keyword_authoring::planned::{Asks, Plan, Planned, PlannedKeyword};
-use keyword_authoring::texts::as_text;
-use keyword_makers::by_value::{Children, MakesByValue, MemberKeyword};
-use schema_reports::instance::Instance;
-use schema_reports::location::OutOfMemory;
+use keyword_authoring::{Asks, Plan, Planned, PlannedKeyword, as_text, is_list, item_count};
+use keyword_makers::{Children, MakesByValue, MemberKeyword};
+use schema_reports::{Instance, OutOfMemory};
 use serde_json::Value;
 use std::alloc::Global;
 use std::marker::Model;

@@ -7,18 +7,13 @@ ghost use Rattle.keyword_authoring.specs.Items.{item_count};
 ghost use Rattle.theory_definitions.specs.Instance.{a_value};
 ghost use Rattle.serde_json.specs.View.{view};
 
-use keyword_authoring::items::item_count;
-use keyword_authoring::judge::{JudgeKeyword, Judged};
-use keyword_authoring::judging::Judge;
-use keyword_authoring::leaf::{Leaf, LeafKeyword};
-use keyword_authoring::own::{ByTurns, OwnKeyword};
-use keyword_authoring::passing::{ask_here, next_number};
-use keyword_authoring::run::Progress;
-use keyword_authoring::texts::as_text;
-use keyword_makers::by_value::{Children, MakesByValue, MemberKeyword};
-use schema_reports::instance::Instance;
-use schema_reports::location::OutOfMemory;
-use schema_traits::keyword::{Answer, Below, Mode, Reply, Step};
+use keyword_authoring::{
+    ByTurns, Judge, JudgeKeyword, Judged, Leaf, LeafKeyword, OwnKeyword, Progress, as_text,
+    ask_here, item_count, next_number,
+};
+use keyword_makers::{Children, MakesByValue, MemberKeyword};
+use schema_reports::{Instance, OutOfMemory};
+use schema_traits::{Answer, Below, Mode, Reply, Step};
 use serde_json::Value;
 use std::alloc::Global;
 

@@ -8,13 +8,21 @@
 //! past 64 bits, do not come back.
 #![tactic(auto)]
 
-pub mod distinct;
-pub mod equality;
-pub mod held;
-pub mod multiples;
-pub mod numbers;
+mod distinct;
+mod equality;
+mod held;
+mod multiples;
+mod numbers;
 
 use std::alloc::AllocError;
 
 /// The allocator refused memory.
 pub type OutOfMemory = AllocError;
+
+pub use distinct::are_all_distinct;
+pub use equality::{are_all_distinct_by_pairs, is_among, is_equal};
+pub use held::HeldValue;
+pub use multiples::{
+    is_integer_valued, is_multiple_of, is_rounded_multiple_of, is_whole, natural_of,
+};
+pub use numbers::{compare, is_at_most, is_less, is_same_number};

@@ -9,16 +9,13 @@ ghost use Rattle.jsonschema.specs.Sources.{default_draft_of, options_by, uri_of}
 ghost use Rattle.standard_resolver.specs.ResolverHolds.{Customs, Defaults, Drafts, GoesBy, Holds, IsUnder, Others};
 
 use crate::sources::Sources;
-use regex_matcher::matcher::RegexMatcher;
-use regex_matcher::patterns::Patterns;
-use schema_engine::compiler::BuildError;
-use schema_engine::context::{KeywordTable, MetaValidators, Resolver, Validate};
-use schema_engine::keywords::{Draft, VocabularySet};
-use schema_engine::location::OutOfMemory;
-use schema_engine::options::ValidationOptions;
-use schema_engine::validator::Validator;
+use regex_matcher::{Patterns, RegexMatcher};
+use schema_engine::{
+    BuildError, Draft, KeywordTable, MetaValidators, OutOfMemory, Resolver, Validate,
+    ValidationOptions, Validator, VocabularySet,
+};
 use serde_json::Value;
-use standard_keywords::table::{StandardKeyword, StandardTable};
+use standard_keywords::{StandardKeyword, StandardTable};
 use standard_resolver::{Document, DocumentResolver, Rule};
 use std::alloc::Global;
 

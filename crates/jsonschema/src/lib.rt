@@ -4,16 +4,11 @@
 //! are supplied under their URIs, and schemas are checked against the meta-schemas.
 #![tactic(auto)]
 
-pub mod building;
-pub mod sources;
+mod building;
+mod sources;
 
-pub use crate::building::{StandardValidator, build};
-pub use crate::sources::Sources;
-pub use regex_matcher::error::PatternError;
-pub use regex_matcher::patterns::Patterns;
-pub use schema_engine::compiler::BuildError;
-pub use schema_engine::keywords::Draft;
-pub use schema_engine::options::ValidationOptions;
-pub use standard_meta::documents::MetaDocuments;
-pub use standard_meta::error::MetaError;
-pub use standard_meta::meta::StandardMeta;
+pub use building::{StandardValidator, build};
+pub use regex_matcher::{PatternError, Patterns};
+pub use schema_engine::{BuildError, Draft, ValidationOptions};
+pub use sources::Sources;
+pub use standard_meta::{MetaDocuments, MetaError, StandardMeta};

@@ -7,12 +7,10 @@ ghost use Rattle.serde_json.specs.View.{view};
 ghost use Rattle.schema_traits.specs.Showing.{Yields};
 ghost use Rattle.jsonschema.specs.Sources.{values_of};
 
-use regex_matcher::error::PatternError;
-use regex_matcher::patterns::Patterns;
-use schema_engine::keywords::Draft;
-use schema_engine::location::OutOfMemory;
+use regex_matcher::{PatternError, Patterns};
+use schema_engine::{Draft, OutOfMemory};
 use serde_json::Value;
-use standard_meta::documents::MetaDocuments;
+use standard_meta::MetaDocuments;
 use standard_resolver::Document;
 use std::alloc::Global;
 use std::marker::Model;

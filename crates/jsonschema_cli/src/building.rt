@@ -1,19 +1,12 @@
 //! Builds the validator of the schema, and answers by it.
 
 use crate::validating::Validating;
-use command_line::answerer::answer_by;
-use command_line::desk::{Desk, Stop};
-use command_line::documents::Document;
-use command_line::engine::Engine;
-use command_line::options::Options;
-use command_line::outcomes::Outcome;
-use command_line::telling::tell;
+use command_line::{Desk, Document, Engine, Options, Outcome, Stop, answer_by, tell};
 use jsonschema::{
     BuildError, MetaDocuments, MetaError, PatternError, Patterns, Sources, StandardMeta,
     ValidationOptions, build,
 };
-use schema_engine::keywords::Draft;
-use schema_engine::location::OutOfMemory;
+use schema_engine::{Draft, OutOfMemory};
 use serde_json::Value;
 use std::alloc::Global;
 

@@ -10,7 +10,7 @@ mod building;
 mod validating;
 
 use crate::building::Standard;
-use command_line::engine::answer_call;
+use command_line::answer_call;
 use std::process::ExitCode;
 
 fn main(rt: HostRuntime) -> ExitCode {

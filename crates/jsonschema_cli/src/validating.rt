@@ -2,11 +2,9 @@
 ghost use Rattle.std.specs.Prelude.{◌≤◌, IfOk};
 ghost use Rattle.command_line.specs.Outcomes.{code_of};
 
-use command_line::answerer::{Answer, Answerer};
-use command_line::envelopes::{Subject, answered, flag};
-use command_line::options::Output;
-use command_line::outcomes::Outcome;
-use command_line::reports::{Paint, file_report, line_report};
+use command_line::{
+    Answer, Answerer, Outcome, Output, Paint, Subject, answered, file_report, flag, line_report,
+};
 use jsonschema::StandardValidator;
 use serde_json::Value;
 use std::alloc::Global;

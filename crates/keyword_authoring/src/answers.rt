@@ -15,10 +15,8 @@ ghost use Rattle.schema_traits.specs.Readings.{Lists};
 ghost use Rattle.schema_traits.specs.Showing.{Shows};
 
 use crate::units::{invalidate, with_unit};
-use schema_reports::evaluation::ErrorDescription;
-use schema_reports::location::OutOfMemory;
-use schema_reports::reports::ValidationError;
-use schema_traits::keyword::{Answer, Fault, Mode, OwnError, Reply};
+use schema_reports::{ErrorDescription, OutOfMemory, ValidationError};
+use schema_traits::{Answer, Fault, Mode, OwnError, Reply};
 use std::alloc::Global;
 use std::mem;
 

@@ -11,8 +11,8 @@ ghost use Rattle.keyword_authoring.specs.Borrowing.{Borrows};
 
 use crate::answers::{says_yes, take};
 use crate::run::{Progress, Stage};
-use schema_reports::location::OutOfMemory;
-use schema_traits::keyword::{Answer, Below, Mode, Reply, Step};
+use schema_reports::OutOfMemory;
+use schema_traits::{Answer, Below, Mode, Reply, Step};
 use std::alloc::Global;
 
 /// Asks the branch that a verdict selects, or ends the run if there is none.

@@ -9,7 +9,7 @@ use crate::leaf::{Leaf, LeafKeyword};
 use crate::leaves::{Telling, TellingKeyword};
 use crate::own::{ByTurns, OwnKeyword};
 use crate::planned::{Planned, PlannedKeyword};
-use schema_traits::cloning::CloneKeyword;
+use schema_traits::CloneKeyword;
 
 /// A `LeafKeyword` that can be cloned. A clone has the shape of its source.
 pub trait CloneLeaf: LeafKeyword + Clone {

@@ -6,7 +6,7 @@ ghost use Rattle.theory_definitions.specs.Instance.{a_value};
 ghost use Rattle.schema_reports.specs.InstanceViews.{subject_of};
 ghost use Rattle.keyword_authoring.specs.Items.{is_list, item_count};
 
-use schema_reports::instance::Instance;
+use schema_reports::Instance;
 use serde_json::Value;
 
 /// Returns whether the instance is an array.

@@ -19,9 +19,8 @@ ghost use Rattle.keyword_authoring.specs.TextWords.{ShowsText};
 use crate::answers::{note, refuse};
 use crate::judging::{Judge, Judging, judge_on};
 use crate::run::Progress;
-use schema_reports::instance::Instance;
-use schema_reports::location::OutOfMemory;
-use schema_traits::keyword::{Answer, Mode, Reply, Step, Validate};
+use schema_reports::{Instance, OutOfMemory};
+use schema_traits::{Answer, Mode, Reply, Step, Validate};
 use std::alloc::Global;
 
 /// A keyword that judges: it asks numbered questions, and counts those accepted.

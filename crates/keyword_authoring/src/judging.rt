@@ -16,8 +16,8 @@ ghost use Rattle.keyword_authoring.specs.Borrowing.{Retains};
 use crate::answers::says_yes;
 use crate::run::{Progress, Stage};
 use crate::units::keep_child;
-use schema_reports::location::OutOfMemory;
-use schema_traits::keyword::{Answer, Mode, Reply};
+use schema_reports::OutOfMemory;
+use schema_traits::{Answer, Mode, Reply};
 use std::alloc::Global;
 
 /// What a turn of a run that judges does.

@@ -17,9 +17,8 @@ ghost use Rattle.keyword_authoring.specs.TextWords.{ShowsText};
 use crate::answers::{note, refuse};
 use crate::run::Progress;
 use crate::telling::tell_on;
-use schema_reports::instance::Instance;
-use schema_reports::location::OutOfMemory;
-use schema_traits::keyword::{Answer, Mode, Reply, Step, Validate};
+use schema_reports::{Instance, OutOfMemory};
+use schema_traits::{Answer, Mode, Reply, Step, Validate};
 use std::alloc::Global;
 
 /// A keyword that asks nothing: it accepts an instance, or reports one error.

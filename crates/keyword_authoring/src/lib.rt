@@ -26,20 +26,37 @@
 //! depend on texts, and that each is asked at a place that exists.
 #![tactic(auto)]
 
-pub mod answers;
-pub mod branching;
-pub mod cloning;
-pub mod items;
-pub mod judge;
-pub mod judging;
-pub mod leaf;
-pub mod leaves;
-pub mod matching;
-pub mod members;
-pub mod own;
-pub mod passing;
-pub mod planned;
-pub mod run;
-pub mod telling;
-pub mod texts;
+mod answers;
+mod branching;
+mod cloning;
+mod items;
+mod judge;
+mod judging;
+mod leaf;
+mod leaves;
+mod matching;
+mod members;
+mod own;
+mod passing;
+mod planned;
+mod run;
+mod telling;
+mod texts;
 mod units;
+
+pub use answers::{goes_on, note, refuse, says_yes, take};
+pub use branching::branch_on;
+pub use cloning::{CloneJudge, CloneLeaf, CloneOwn, ClonePlanned, CloneTelling};
+pub use items::{is_list, item_count, items_of};
+pub use judge::{JudgeKeyword, Judged, turn_judge};
+pub use judging::{Judge, Judging, judge_children, judge_on};
+pub use leaf::{Leaf, LeafKeyword, turn_leaf};
+pub use leaves::{Telling, TellingKeyword, turn_telling};
+pub use matching::{MatchTurn, ask_match, match_on};
+pub use members::{has_member, is_object, member_count, members_of, name_at};
+pub use own::{ByTurns, OwnKeyword};
+pub use passing::{ask_here, next_number, onward};
+pub use planned::{Asks, Plan, Planned, PlannedKeyword};
+pub use run::{Progress, Stage};
+pub use telling::tell_on;
+pub use texts::as_text;

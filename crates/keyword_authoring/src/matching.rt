@@ -9,7 +9,7 @@ ghost use Rattle.keyword_authoring.specs.Ways.{is_located, match_point};
 
 use crate::answers::says_yes;
 use crate::run::{Progress, Stage};
-use schema_traits::keyword::{Mode, Reply, Step};
+use schema_traits::{Mode, Reply, Step};
 
 /// What a turn of a run that requests a match does.
 #[derive(Clone, Copy)]

@@ -7,7 +7,7 @@ ghost use Rattle.schema_reports.specs.InstanceViews.{subject_of};
 ghost use Rattle.keyword_authoring.specs.Members.{has_member, is_object, member_count, name_at, names_in, names_of_any, subject_names};
 ghost use Rattle.schema_traits.specs.Readings.{fields};
 
-use schema_reports::instance::Instance;
+use schema_reports::Instance;
 use serde_json::{Map, Value};
 
 /// Returns whether the instance is an object.

@@ -11,9 +11,8 @@ ghost use Rattle.keyword_authoring.specs.TurnWords.{TellsTurn, TellsStep};
 ghost use Rattle.keyword_authoring.specs.Borrowing.{Borrows};
 
 use crate::run::Progress;
-use schema_reports::instance::Instance;
-use schema_reports::location::OutOfMemory;
-use schema_traits::keyword::{Answer, Mode, Reply, Step, Validate};
+use schema_reports::{Instance, OutOfMemory};
+use schema_traits::{Answer, Mode, Reply, Step, Validate};
 use std::alloc::Global;
 
 /// A keyword that takes its own turns. Its kind may depend on the instance.

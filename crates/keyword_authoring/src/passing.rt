@@ -13,8 +13,8 @@ ghost use Rattle.keyword_authoring.specs.Borrowing.{Borrows};
 
 use crate::answers::{goes_on, take};
 use crate::run::{Progress, Stage};
-use schema_reports::location::OutOfMemory;
-use schema_traits::keyword::{Answer, Below, Mode, Reply, Step};
+use schema_reports::OutOfMemory;
+use schema_traits::{Answer, Below, Mode, Reply, Step};
 use std::alloc::Global;
 
 /// Takes the reply to a question, if one was asked.

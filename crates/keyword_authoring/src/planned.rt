@@ -21,9 +21,8 @@ use crate::members::{member_count, name_at};
 use crate::passing::next_number;
 use crate::run::Progress;
 use crate::telling::tell_on;
-use schema_reports::instance::Instance;
-use schema_reports::location::OutOfMemory;
-use schema_traits::keyword::{Answer, Below, Mode, Reply, Step, Validate};
+use schema_reports::{Instance, OutOfMemory};
+use schema_traits::{Answer, Below, Mode, Reply, Step, Validate};
 use std::alloc::Global;
 
 /// What a keyword asks.

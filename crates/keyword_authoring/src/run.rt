@@ -3,7 +3,7 @@ ghost use Rattle.std.specs.Prelude.{◌≡◌};
 ghost use Rattle.schema_traits.specs.KeywordViews.{mode_of};
 ghost use Rattle.keyword_authoring.specs.Ways.{way_begin};
 
-use schema_traits::keyword::Mode;
+use schema_traits::Mode;
 
 /// The stage of a run: before its first turn, after a question, or at its end.
 ///

@@ -4,7 +4,7 @@ ghost use Rattle.schema_reports.specs.InstanceViews.{subject_of};
 ghost use Rattle.keyword_authoring.specs.Texts.{as_text};
 ghost use Rattle.schema_traits.specs.Readings.{text_read};
 
-use schema_reports::instance::Instance;
+use schema_reports::Instance;
 
 /// Returns the instance's text, if it is one. The name of a member is a text too.
 pub fn as_text<'i>(instance: Instance<'i>) -> Option<&'i str>

@@ -12,10 +12,8 @@ ghost use Rattle.keyword_authoring.specs.Borrowing.{Retains};
 ghost use Rattle.schema_traits.specs.Showing.{Shows};
 
 use crate::run::Stage;
-use schema_reports::evaluation::{ChildList, EvaluationNode};
-use schema_reports::evaluation_result::EvaluationResult;
-use schema_reports::location::OutOfMemory;
-use schema_traits::keyword::{Answer, Reply};
+use schema_reports::{ChildList, EvaluationNode, EvaluationResult, OutOfMemory};
+use schema_traits::{Answer, Reply};
 use std::alloc::Global;
 use std::mem;
 

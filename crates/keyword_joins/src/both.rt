@@ -1,8 +1,6 @@
 //! A keyword of one of two types.
-use schema_reports::instance::Instance;
-use schema_reports::location::OutOfMemory;
-use schema_traits::asking::Asking;
-use schema_traits::keyword::{Answer, Mode, Reply, Step, Validate};
+use schema_reports::{Instance, OutOfMemory};
+use schema_traits::{Answer, Asking, Mode, Reply, Step, Validate};
 use std::alloc::Global;
 
 /// A value of one of two types.

@@ -1,6 +1,6 @@
 //! Clones of keywords of one of two types.
 use crate::both::Both;
-use schema_traits::cloning::CloneKeyword;
+use schema_traits::CloneKeyword;
 
 impl<A: CloneKeyword, B: CloneKeyword> CloneKeyword for Both<A, B> {
     ghost use Rattle.keyword_joins.specs.Clones.{cloned_alike};

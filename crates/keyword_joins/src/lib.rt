@@ -4,7 +4,11 @@
 //! the standard, draft by draft (`routed`). A join keeps the laws that each of the two keeps.
 #![tactic(auto)]
 
-pub mod both;
-pub mod cloning;
-pub mod routed;
-pub mod table;
+mod both;
+mod cloning;
+mod routed;
+mod table;
+
+pub use both::Both;
+pub use routed::{Route, RoutedTables};
+pub use table::BothTable;

@@ -11,10 +11,9 @@ ghost use Rattle.schema_traits.specs.MakerViews as makers;
 
 use crate::both::Both;
 use crate::table::turn_either;
-use schema_drafts::keywords::{Draft, VocabularySet};
-use schema_reports::location::OutOfMemory;
-use schema_traits::keyword::Validate;
-use schema_traits::table::{KeywordOrigin, KeywordTable, MakerReply, MakerStep};
+use schema_drafts::{Draft, VocabularySet};
+use schema_reports::OutOfMemory;
+use schema_traits::{KeywordOrigin, KeywordTable, MakerReply, MakerStep, Validate};
 use serde_json::{Map, Value};
 use std::alloc::Global;
 

@@ -8,10 +8,9 @@ ghost use Rattle.keyword_joins.specs.Sides.{side_of};
 ghost use Rattle.keyword_joins.specs.declared.both.Both.TheVariants as both;
 
 use crate::both::Both;
-use schema_drafts::keywords::{Draft, VocabularySet};
-use schema_reports::location::OutOfMemory;
-use schema_traits::keyword::Validate;
-use schema_traits::table::{KeywordOrigin, KeywordTable, MakerReply, MakerStep};
+use schema_drafts::{Draft, VocabularySet};
+use schema_reports::OutOfMemory;
+use schema_traits::{KeywordOrigin, KeywordTable, MakerReply, MakerStep, Validate};
 use serde_json::{Map, Value};
 use std::alloc::Global;
 

@@ -5,8 +5,8 @@ ghost use Rattle.schema_traits.specs.Showing.{Yields};
 ghost use Rattle.schema_traits.specs.Readings.{fields};
 
 use crate::paths::{value_in, value_of};
-use schema_reports::location::OutOfMemory;
-use schema_traits::schema_place::SchemaPath;
+use schema_reports::OutOfMemory;
+use schema_traits::SchemaPath;
 use serde_json::{Map, Value};
 use std::alloc::Global;
 

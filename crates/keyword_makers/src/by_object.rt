@@ -15,10 +15,9 @@ use crate::maker::{Ending, PathsMaker, asks_for, ends};
 use crate::members::values_below;
 use crate::paths::value_in;
 use crate::refusals::{malformed, refused};
-use schema_drafts::keywords::{Draft, VocabularySet};
-use schema_reports::location::OutOfMemory;
-use schema_traits::keyword::Validate;
-use schema_traits::table::{KeywordOrigin, KeywordTable, MakerReply, MakerStep};
+use schema_drafts::{Draft, VocabularySet};
+use schema_reports::OutOfMemory;
+use schema_traits::{KeywordOrigin, KeywordTable, MakerReply, MakerStep, Validate};
 use serde_json::{Map, Value};
 use std::alloc::Global;
 

@@ -12,11 +12,9 @@ use crate::maker::{Ending, PathsMaker, asks_for, ends};
 use crate::members::{member_below, names_of, values_below};
 use crate::paths::{items_below, value_in, value_of};
 use crate::refusals::malformed;
-use schema_drafts::keywords::{Draft, VocabularySet};
-use schema_reports::location::OutOfMemory;
-use schema_traits::keyword::Validate;
-use schema_traits::schema_place::SchemaPath;
-use schema_traits::table::{KeywordOrigin, KeywordTable, MakerReply, MakerStep};
+use schema_drafts::{Draft, VocabularySet};
+use schema_reports::OutOfMemory;
+use schema_traits::{KeywordOrigin, KeywordTable, MakerReply, MakerStep, SchemaPath, Validate};
 use serde_json::{Map, Value};
 use std::alloc::Global;
 

@@ -6,11 +6,20 @@
 //! neighbouring members (`by_object`).
 #![tactic(auto)]
 
-pub mod branches;
-pub mod by_object;
-pub mod by_value;
-pub mod lists;
-pub mod maker;
-pub mod members;
-pub mod paths;
-pub mod refusals;
+mod branches;
+mod by_object;
+mod by_value;
+mod lists;
+mod maker;
+mod members;
+mod paths;
+mod refusals;
+
+pub use branches::{Branches, branches_of};
+pub use by_object::{MakesByObject, ObjectKeyword, TableByObject};
+pub use by_value::{Children, MakesByValue, MemberKeyword, TableByValue};
+pub use lists::{each_schema, list_length};
+pub use maker::{Ending, PathsMaker, asks_for, each_item, ends, only_child};
+pub use members::{member_below, names_of, push_text, values_below, values_of};
+pub use paths::{items_below, value_in, value_of};
+pub use refusals::{makes_if, malformed, refused};

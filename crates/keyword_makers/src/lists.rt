@@ -8,8 +8,8 @@ ghost use Rattle.keyword_makers.specs.MakerViews.{Begins};
 
 use crate::maker::{PathsMaker, each_item};
 use crate::refusals::malformed;
-use schema_reports::location::OutOfMemory;
-use schema_traits::keyword::Validate;
+use schema_reports::OutOfMemory;
+use schema_traits::Validate;
 use serde_json::Value;
 use std::alloc::Global;
 

@@ -7,11 +7,8 @@ ghost use Rattle.keyword_makers.specs.Making.{asks_for, each_item, only_child};
 ghost use Rattle.keyword_makers.specs.MakerViews.{Begins, made_of, waiting_of};
 
 use crate::paths::{items_below, value_of};
-use schema_reports::location::OutOfMemory;
-use schema_reports::reports::OwnedError;
-use schema_traits::keyword::Validate;
-use schema_traits::schema_place::SchemaPath;
-use schema_traits::table::{MakerReply, MakerStep};
+use schema_reports::{OutOfMemory, OwnedError};
+use schema_traits::{MakerReply, MakerStep, SchemaPath, Validate};
 use serde_json::Value;
 use std::alloc::Global;
 use std::mem;

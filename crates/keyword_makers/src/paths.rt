@@ -9,8 +9,8 @@ ghost use Rattle.keyword_makers.specs.Making.{items_from};
 ghost use Rattle.schema_traits.specs.Readings.{Lists, fields, value_read};
 ghost use Rattle.schema_traits.specs.Showing.{Yields};
 
-use schema_reports::location::OutOfMemory;
-use schema_traits::schema_place::{SchemaPath, SchemaStep};
+use schema_reports::OutOfMemory;
+use schema_traits::{SchemaPath, SchemaStep};
 use serde_json::{Map, Value};
 use std::alloc::Global;
 use std::rc::RcStr;

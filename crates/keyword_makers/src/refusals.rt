@@ -10,9 +10,8 @@ ghost use Rattle.keyword_makers.specs.MakerViews.{Begins};
 ghost use Rattle.schema_traits.specs.Showing.{Shows, Yields};
 
 use crate::maker::{Ending, PathsMaker, ends};
-use schema_reports::location::{Location, LocationSegment, OutOfMemory};
-use schema_reports::reports::OwnedError;
-use schema_traits::keyword::Validate;
+use schema_reports::{Location, LocationSegment, OutOfMemory, OwnedError};
+use schema_traits::Validate;
 use serde_json::Value;
 use std::alloc::Global;
 

@@ -8,11 +8,9 @@ ghost use Rattle.schema_compiled.specs.Answers.{refusal_of};
 ghost use Rattle.meta_checker.specs.Checks.{Checks, first_by};
 
 use crate::nodes::{TellsFractions, show_no_fraction};
-use schema_reports::location::OutOfMemory;
-use schema_reports::reports::ValidationError;
-use schema_traits::keyword::Validate;
-use schema_traits::matcher::Matcher;
-use schema_validator::validator::Validator;
+use schema_reports::{OutOfMemory, ValidationError};
+use schema_traits::{Matcher, Validate};
+use schema_validator::Validator;
 use serde_json::Value;
 use std::alloc::Global;
 use std::marker::Model;

@@ -6,12 +6,9 @@ ghost use Rattle.schema_compiled.specs.Program.{Program};
 ghost use Rattle.meta_checker.specs.DraftChecks.{EachChecks, program_of};
 
 use crate::checker::Checker;
-use schema_drafts::keywords::Draft;
-use schema_reports::location::OutOfMemory;
-use schema_reports::reports::ValidationError;
-use schema_traits::keyword::Validate;
-use schema_traits::matcher::Matcher;
-use schema_traits::meta::MetaValidators;
+use schema_drafts::Draft;
+use schema_reports::{OutOfMemory, ValidationError};
+use schema_traits::{Matcher, MetaValidators, Validate};
 use serde_json::Value;
 use std::alloc::Global;
 use std::marker::Model;

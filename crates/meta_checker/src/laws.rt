@@ -4,7 +4,7 @@
 ghost use Rattle.std.specs.Prelude.{Bool};
 ghost use Rattle.meta_checker.specs.FirstErrors.{FirstIsTold};
 
-use schema_traits::keyword::Validate;
+use schema_traits::Validate;
 
 /// The first error of a call is a function of the nodes and the instance.
 ///

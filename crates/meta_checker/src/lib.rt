@@ -3,8 +3,14 @@
 //! Meta validators have to have this property. Those of this crate have one checker for each draft.
 #![tactic(auto)]
 
-pub mod checker;
-pub mod drafts;
-pub mod laws;
-pub mod nodes;
-pub mod values;
+mod checker;
+mod drafts;
+mod laws;
+mod nodes;
+mod values;
+
+pub use checker::Checker;
+pub use drafts::{CheckerMaker, DraftCheckers};
+pub use laws::first_errors_are_told;
+pub use nodes::{TellsFractions, show_no_fraction};
+pub use values::has_fraction;

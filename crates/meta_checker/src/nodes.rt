@@ -7,9 +7,8 @@ ghost use Rattle.schema_node_table.specs.NodeViews.{form_of, node_of};
 ghost use Rattle.theory_meaning.specs.Fractions.{AreWhole};
 ghost use Rattle.meta_checker.specs.Shown.{form_is_whole, node_is_whole, table_is_whole};
 
-use schema_node_table::node::{Entry, EntryForm, Node, NodeForm, Nodes};
-use schema_traits::keyword::Validate;
-use schema_traits::numbers::SchemaNode;
+use schema_node_table::{Entry, EntryForm, Node, NodeForm, Nodes};
+use schema_traits::{SchemaNode, Validate};
 
 /// Reports whether a keyword shows a fraction of the schema.
 pub trait TellsFractions<K: Validate> {

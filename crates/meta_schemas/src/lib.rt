@@ -17,7 +17,7 @@ mod draft4;
 mod draft6;
 mod draft7;
 
-use schema_drafts::keywords::Draft;
+use schema_drafts::Draft;
 
 /// A meta-schema, or the meta-schema of a vocabulary.
 #[derive(Clone, Copy)]

@@ -8,7 +8,7 @@ ghost use Rattle.schema_traits.specs.Showing.{Yields};
 use crate::ecma::translate;
 use crate::error::PatternError;
 use regex::{Error, Matcher, Regex};
-use schema_reports::location::OutOfMemory;
+use schema_reports::OutOfMemory;
 use std::alloc::Global;
 use std::marker::Model;
 

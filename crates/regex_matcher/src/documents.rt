@@ -5,7 +5,7 @@ ghost use Rattle.regex_matcher.specs.SchemaPatterns.{given_by, member_names_of, 
 ghost use Rattle.regex_matcher.specs.SchemaPatterns.{patterns_in_members, patterns_of, text_of};
 ghost use Rattle.schema_traits.specs.Readings.{AddsTexts, ListsTexts, fields};
 
-use schema_reports::location::OutOfMemory;
+use schema_reports::OutOfMemory;
 use serde_json::{Map, Value};
 use std::alloc::Global;
 

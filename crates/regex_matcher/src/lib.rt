@@ -5,11 +5,20 @@
 //! compiling a pattern again.
 #![tactic(auto)]
 
-pub mod compiled;
-pub mod documents;
-pub mod ecma;
-pub mod error;
-pub mod matcher;
-pub mod patterns;
-pub mod reading;
-pub mod unreadable;
+mod compiled;
+mod documents;
+mod ecma;
+mod error;
+mod matcher;
+mod patterns;
+mod reading;
+mod unreadable;
+
+pub use compiled::{Compiled, Search};
+pub use documents::patterns_of;
+pub use ecma::{Mode, Move, Writing, translate};
+pub use error::PatternError;
+pub use matcher::RegexMatcher;
+pub use patterns::Patterns;
+pub use reading::is_readable;
+pub use unreadable::Unreadable;

@@ -8,12 +8,12 @@ use crate::compiled::{Compiled, Search};
 use crate::patterns::Patterns;
 use crate::reading::is_readable;
 use crate::unreadable::Unreadable;
-use schema_reports::location::OutOfMemory;
-use schema_traits::matcher::Matcher;
+use schema_reports::OutOfMemory;
+use schema_traits::Matcher;
 use std::alloc::{AllocError, Global};
 use std::cell::RefCell;
 use std::marker::Model;
-use unfinished_matches::site::Match;
+use unfinished_matches::Match;
 
 /// A matcher of regular expressions.
 ///

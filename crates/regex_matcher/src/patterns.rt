@@ -8,7 +8,7 @@ ghost use Rattle.schema_traits.specs.Readings.{text_read};
 use crate::compiled::Compiled;
 use crate::documents::patterns_of;
 use crate::error::PatternError;
-use schema_reports::location::OutOfMemory;
+use schema_reports::OutOfMemory;
 use serde_json::Value;
 use std::alloc::Global;
 use std::collections::HashMap;

@@ -5,7 +5,7 @@ ghost use Rattle.schema_traits.specs.Showing.{Yields};
 
 use crate::ecma::translate;
 use regex_syntax::{Config, ErrorKind};
-use schema_reports::location::OutOfMemory;
+use schema_reports::OutOfMemory;
 use std::alloc::{AllocError, Global};
 
 /// Returns whether a text is a readable pattern.

@@ -3,7 +3,7 @@ ghost use Rattle.std.specs.Prelude.{◌≡◌};
 ghost use Rattle.unfinished_matches.specs.MatchViews.{match_of};
 ghost use Rattle.regex_matcher.specs.RegexMatching.{answer_of};
 
-use unfinished_matches::site::{Match, Reason};
+use unfinished_matches::{Match, Reason};
 
 /// The answer for an unreadable pattern.
 ///

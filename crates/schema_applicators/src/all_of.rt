@@ -4,10 +4,9 @@ ghost use Rattle.keyword_authoring.specs.Ways.{passes_on};
 ghost use Rattle.keyword_authoring.specs.TurnWords.{Steps, Turns};
 ghost use Rattle.keyword_authoring.specs.Borrowing.{Borrows};
 
-use keyword_authoring::passing::{ask_here, next_number};
-use keyword_authoring::run::Progress;
-use schema_reports::location::OutOfMemory;
-use schema_traits::keyword::{Answer, Reply, Step};
+use keyword_authoring::{Progress, ask_here, next_number};
+use schema_reports::OutOfMemory;
+use schema_traits::{Answer, Reply, Step};
 use std::alloc::Global;
 
 /// Takes a turn of `allOf`, which evaluates each child at its own place.

@@ -8,12 +8,9 @@ ghost use Rattle.keyword_authoring.specs.TurnWords.{StepsBy, TellsTurnBy};
 ghost use Rattle.schema_applicators.specs.RunWays.{TellsTally, judges_not, tally_of_not};
 ghost use Rattle.keyword_authoring.specs.Borrowing.{Borrows, Retains};
 
-use keyword_authoring::answers::{note, refuse};
-use keyword_authoring::judging::{Judge, Judging, judge_children};
-use keyword_authoring::run::Progress;
-use schema_reports::instance::Instance;
-use schema_reports::location::OutOfMemory;
-use schema_traits::keyword::{Answer, Below, Mode, Reply, Step};
+use keyword_authoring::{Judge, Judging, Progress, judge_children, note, refuse};
+use schema_reports::{Instance, OutOfMemory};
+use schema_traits::{Answer, Below, Mode, Reply, Step};
 use serde_json::Value;
 use std::alloc::Global;
 

@@ -8,13 +8,12 @@ ghost use Rattle.schema_applicators.specs.Shapes.{shape_of};
 ghost use Rattle.schema_traits.specs.Readings.{fields};
 
 use crate::applicator::Applicator;
-use keyword_makers::branches::branches_of;
-use keyword_makers::lists::{each_schema, list_length};
-use keyword_makers::maker::{Ending, PathsMaker, asks_for, ends, only_child};
-use keyword_makers::paths::value_in;
-use schema_drafts::keywords::{Draft, VocabularySet};
-use schema_reports::location::OutOfMemory;
-use schema_traits::table::{KeywordOrigin, KeywordTable, MakerReply, MakerStep};
+use keyword_makers::{
+    Ending, PathsMaker, asks_for, branches_of, each_schema, ends, list_length, only_child, value_in,
+};
+use schema_drafts::{Draft, VocabularySet};
+use schema_reports::OutOfMemory;
+use schema_traits::{KeywordOrigin, KeywordTable, MakerReply, MakerStep};
 use serde_json::{Map, Value};
 use std::alloc::Global;
 

@@ -3,8 +3,7 @@ ghost use Rattle.std.specs.Prelude.{IfOk};
 ghost use Rattle.schema_applicators.specs.Words.{none_text};
 ghost use Rattle.keyword_authoring.specs.TextWords.{ShowsText};
 
-use schema_reports::instance::Instance;
-use schema_reports::location::OutOfMemory;
+use schema_reports::{Instance, OutOfMemory};
 use std::alloc::Global;
 
 /// Returns the error's text for an instance that no schema of a list accepts.

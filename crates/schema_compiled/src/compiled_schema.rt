@@ -28,26 +28,19 @@ ghost use Rattle.schema_node_table.specs.NodeTable.{numbered};
 
 mod cloning;
 
-use schema_drafts::keywords::Draft;
-use schema_node::node::RunNodes;
-use schema_node::node::runs::FirstQuestion;
-use schema_node_table::node::Nodes;
-use schema_output::error_units::unit_of_errors;
-use schema_places::on_demand::PlacesOnDemand;
-use schema_reports::evaluation::EvaluationNode;
-use schema_reports::instance::{Instance, Place};
-use schema_reports::location::{Location, OutOfMemory};
-use schema_reports::reports::ValidationError;
-use schema_run_context::validation::ValidationContext;
-use schema_run_context::work::Work;
-use schema_solver::eligible::{SolvedVerdict, Solver};
-use schema_traits::keyword::{Mode, Reply, Validate};
-use schema_traits::matcher::Matcher;
-use schema_traits::numbers::SchemaNode;
+use schema_drafts::Draft;
+use schema_node::{FirstQuestion, RunNodes};
+use schema_node_table::Nodes;
+use schema_output::unit_of_errors;
+use schema_places::PlacesOnDemand;
+use schema_reports::{EvaluationNode, Instance, Location, OutOfMemory, Place, ValidationError};
+use schema_run_context::{ValidationContext, Work};
+use schema_solver::{SolvedVerdict, Solver};
+use schema_traits::{Matcher, Mode, Reply, SchemaNode, Validate};
 use serde_json::Value;
 use std::alloc::Global;
 use std::marker::Model;
-use unfinished_matches::assumptions::MatchAssumptions;
+use unfinished_matches::MatchAssumptions;
 use unfinished_search::{errors_under_each, validity_under_each};
 
 /// The limits of a call: on runs, and on steps if there is such a limit.

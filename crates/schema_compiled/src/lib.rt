@@ -1,5 +1,8 @@
 //! Compiled schemas, the answers of their runs and of their solver, and definitions about them.
 #![tactic(auto)]
 
-pub mod compiled_schema;
-pub mod stopping;
+mod compiled_schema;
+mod stopping;
+
+pub use compiled_schema::{CallLimits, CompiledSchema};
+pub use stopping::{limit_failure, limit_failure_alone};

@@ -3,9 +3,7 @@ ghost use Rattle.std.specs.Prelude.{IfOk};
 ghost use Rattle.serde_json.specs.View.{view};
 ghost use Rattle.schema_compiled.specs.Stopped.{OnlyTellsLimit, TellsLimit};
 
-use schema_reports::instance::{Instance, Place};
-use schema_reports::location::{Location, OutOfMemory};
-use schema_reports::reports::ValidationError;
+use schema_reports::{Instance, Location, OutOfMemory, Place, ValidationError};
 use serde_json::Value;
 use std::alloc::Global;
 

@@ -23,21 +23,14 @@ use crate::compiler::entries::{entry_named, insert_by_priority, node_alone};
 use crate::compiler::makers::keep_edge;
 use crate::compiler::reservations::ReservedNode;
 use crate::compiler::setup::Compiler;
-use schema_drafts::keywords::priorities::{CUSTOM_PRIORITY, REF_PRIORITY};
-use schema_keys::error::BuildError;
-use schema_keys::key::SchemaKey;
-use schema_keys::keys::find;
-use schema_keys::options::CompileOptions;
-use schema_keys::references::{ReferenceKind, reference_kind};
-use schema_keys::values;
-use schema_keys::values::{Reading, value_of};
-use schema_node_table::node::{Entry, EntryForm, NodeForm};
-use schema_reports::location::{Location, LocationSegment};
-use schema_traits::keyword::Validate;
-use schema_traits::numbers::Edge;
-use schema_traits::resolver::Resolver;
-use schema_traits::schema_place::SchemaPath;
-use schema_traits::table::{KeywordTable, MakerReply, MakerStep};
+use schema_drafts::{CUSTOM_PRIORITY, REF_PRIORITY};
+use schema_keys::{
+    BuildError, CompileOptions, Reading, ReferenceKind, SchemaKey, find, object_of as object_in,
+    reference_kind, value_of,
+};
+use schema_node_table::{Entry, EntryForm, NodeForm};
+use schema_reports::{Location, LocationSegment};
+use schema_traits::{Edge, KeywordTable, MakerReply, MakerStep, Resolver, SchemaPath, Validate};
 use serde_json::{Map, Value};
 use std::alloc::Global;
 use std::rc::Rc;
@@ -51,8 +44,6 @@ pub mod setup;
 mod targets;
 mod vocabularies;
 mod worklist;
-
-pub use schema_keys::{check, context, error, key};
 
 /// Compiles the schema of a key and every schema that it reaches.
 ///
@@ -258,7 +249,7 @@ impl<'p, R: Resolver, T> Compiler<'p, R, T> {
     {
         let context = self.context(key);
         let value = value_of(self.resolver, key, reading);
-        match values::object_of(value) {
+        match object_in(value) {
             Some(members) => self.plan_object(compiled, key, members),
             None => Ok(PlannedNode {
                 form: context.plain_form(value)?,

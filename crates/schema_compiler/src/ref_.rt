@@ -6,13 +6,10 @@ ghost use Rattle.schema_compiler.specs.Gives.{GivesReference};
 use crate::compiler::compilation::Compilation;
 use crate::compiler::entries::entry_named;
 use crate::compiler::setup::Compiler;
-use schema_keys::error::BuildError;
-use schema_keys::key::SchemaKey;
-pub use schema_keys::references::{RefTarget, ReferenceKind};
-use schema_node_table::node::{Entry, EntryForm};
-use schema_traits::keyword::Validate;
-use schema_traits::resolver::Resolver;
-use schema_traits::table::KeywordTable;
+use schema_keys::{BuildError, SchemaKey};
+pub use schema_keys::{RefTarget, ReferenceKind};
+use schema_node_table::{Entry, EntryForm};
+use schema_traits::{KeywordTable, Resolver, Validate};
 use serde_json::Value;
 
 impl<'p, R: Resolver, T> Compiler<'p, R, T> {

@@ -11,15 +11,11 @@ ghost use Rattle.schema_validator.specs.FirstCauses.{FirstOfBuild};
 ghost use Rattle.schema_engine.specs.GreatestCalls.{DecidesGreatest, ErrorsGreatest, EvaluatesGreatest, FirstGreatest};
 ghost use Rattle.schema_engine.specs.OneCall.{Builds, Passes, Refuses, Says};
 
-use schema_keys::error::BuildError;
-use schema_output::evaluation::Evaluation;
-use schema_reports::reports::{ErrorIterator, ValidationError};
-use schema_traits::keyword::Validate;
-use schema_traits::matcher::Matcher;
-use schema_traits::meta::MetaValidators;
-use schema_traits::resolver::Resolver;
-use schema_traits::table::KeywordTable;
-use schema_validator::validator::Validator;
+use schema_keys::BuildError;
+use schema_output::Evaluation;
+use schema_reports::{ErrorIterator, ValidationError};
+use schema_traits::{KeywordTable, Matcher, MetaValidators, Resolver, Validate};
+use schema_validator::Validator;
 use serde_json::Value;
 use std::alloc::Global;
 

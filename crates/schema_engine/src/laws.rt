@@ -11,10 +11,7 @@ ghost use Rattle.schema_engine.specs.Nesting.{AllErrorsAgree, BuildsAgree, First
 ghost use Rattle.schema_engine.specs.Nesting.{EvaluationsOfBoth, UnitsOfBoth};
 ghost use Rattle.schema_engine.specs.Nesting.{LargerErrors, LargerEvaluations, LargerFirstErrors, LargerVerdicts};
 
-use schema_traits::keyword::Validate;
-use schema_traits::matcher::Matcher;
-use schema_traits::resolver::Resolver;
-use schema_traits::table::KeywordTable;
+use schema_traits::{KeywordTable, Matcher, Resolver, Validate};
 
 /// Two validators with the meaning of one schema answer every instance alike.
 ///

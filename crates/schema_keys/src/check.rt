@@ -22,12 +22,9 @@ mod masked;
 
 use crate::check::embedded::Cut;
 use crate::error::BuildError;
-use schema_drafts::keywords::Draft;
-use schema_reports::location::{Location, OutOfMemory};
-use schema_reports::reports::OwnedError;
-use schema_traits::meta::MetaValidators;
-use schema_traits::resolver::Resolver;
-use schema_traits::schema_place::SchemaPlace;
+use schema_drafts::Draft;
+use schema_reports::{Location, OutOfMemory, OwnedError};
+use schema_traits::{MetaValidators, Resolver, SchemaPlace};
 use serde_json::Value;
 use std::alloc::Global;
 

@@ -21,10 +21,10 @@ ghost use Rattle.schema_keys.specs.Showing.{IsRest};
 use crate::key::SchemaKey;
 use crate::options::CompileOptions;
 use crate::text::{has_own_scheme, text_before_fragment};
-use schema_drafts::keywords::{BuiltinRow, Draft, Vocabulary, builtin_row, has_vocabulary};
-use schema_node_table::node::absolute::push_fragment;
-use schema_reports::location::{Location, LocationSegment, OutOfMemory};
-use schema_traits::resolver::Resolver;
+use schema_drafts::{BuiltinRow, Draft, Vocabulary, builtin_row, has_vocabulary};
+use schema_node_table::push_fragment;
+use schema_reports::{Location, LocationSegment, OutOfMemory};
+use schema_traits::Resolver;
 use serde_json::{Map, Value};
 use std::alloc::Global;
 

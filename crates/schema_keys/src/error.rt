@@ -2,9 +2,8 @@
 ghost use Rattle.std.specs.Prelude.{◌≡◌, Some};
 ghost use Rattle.schema_keys.specs.Refusing.{number_of};
 
-use schema_reports::location::Location;
-use schema_reports::reports::OwnedError;
-use schema_traits::resolver::LookupError;
+use schema_reports::{Location, OwnedError};
+use schema_traits::LookupError;
 use std::alloc::{AllocError, AllocFailed};
 use std::error::Error;
 use std::fmt;

@@ -2,10 +2,9 @@
 ghost use Rattle.std.specs.Prelude.{◌≡◌, ◌↔◌, IsTrue};
 ghost use Rattle.schema_keys.specs.KeyViews.{key_of};
 
-use schema_drafts::keywords::{Draft, VocabularySet};
-use schema_reports::location::Location;
-use schema_traits::resolver::Resolver;
-use schema_traits::schema_place::SchemaPlace;
+use schema_drafts::{Draft, VocabularySet};
+use schema_reports::Location;
+use schema_traits::{Resolver, SchemaPlace};
 
 /// The key that a node is compiled for.
 ///

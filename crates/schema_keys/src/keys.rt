@@ -9,8 +9,8 @@ ghost use Rattle.schema_keys.specs.KeyViews.{key_of, IsNumberOf};
 ghost use Rattle.schema_keys.specs.KeyHashes.{hash_of};
 
 use crate::key::{SchemaKey, same_key};
-use schema_reports::location::OutOfMemory;
-use schema_traits::resolver::Resolver;
+use schema_reports::OutOfMemory;
+use schema_traits::Resolver;
 use std::alloc::Global;
 use std::collections::HashMap;
 use std::hash::{FoldHasher, Hash, Hasher};

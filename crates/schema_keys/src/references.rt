@@ -18,8 +18,8 @@ use crate::error::BuildError;
 use crate::key::SchemaKey;
 use crate::text::fragment_of;
 use percent_encoding::{decode_utf8_lossy, percent_decode};
-use schema_reports::location::{Location, OutOfMemory};
-use schema_traits::resolver::{LookupError, Resolver, Target};
+use schema_reports::{Location, OutOfMemory};
+use schema_traits::{LookupError, Resolver, Target};
 use std::alloc::Global;
 
 /// A reference keyword.

@@ -7,8 +7,8 @@ ghost use Rattle.schema_keys.specs.DocumentSchemas.{IndicesFit, schemas_in, sche
 ghost use Rattle.schema_keys.specs.DocumentSchemas.{schemas_in_members, StaysFit};
 ghost use Rattle.schema_traits.specs.Showing.{Yields};
 
-use schema_reports::location::OutOfMemory;
-use schema_traits::schema_place::{SchemaPath, SchemaStep};
+use schema_reports::OutOfMemory;
+use schema_traits::{SchemaPath, SchemaStep};
 use serde_json::{Map, Value};
 use std::alloc::Global;
 use std::rc::RcStr;

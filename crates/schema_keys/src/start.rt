@@ -6,9 +6,8 @@ ghost use Rattle.schema_keys.specs.Here.{parts_here};
 ghost use Rattle.schema_traits.specs.Showing.{Yields};
 
 use crate::context::Context;
-use schema_reports::location::{Location, OutOfMemory};
-use schema_traits::resolver::{Resolver, Target};
-use schema_traits::schema_place::SchemaPlace;
+use schema_reports::{Location, OutOfMemory};
+use schema_traits::{Resolver, SchemaPlace, Target};
 
 // The number of segments of a pointer.
 fn segment_count(location: &str) -> usize

@@ -14,10 +14,9 @@ ghost use Rattle.schema_keys.specs.Readings.{read_value};
 use crate::context::Context;
 use crate::error::BuildError;
 use crate::key::SchemaKey;
-use schema_drafts::keywords::{Draft, VocabularySet};
-use schema_reports::location::{Location, OutOfMemory};
-use schema_traits::resolver::{LookupError, Resolver, Target};
-use schema_traits::schema_place::{SchemaPath, SchemaPlace};
+use schema_drafts::{Draft, VocabularySet};
+use schema_reports::{Location, OutOfMemory};
+use schema_traits::{LookupError, Resolver, SchemaPath, SchemaPlace, Target};
 use serde_json::{Map, Value};
 
 /// A subschema: its key, its pointer, and its value.

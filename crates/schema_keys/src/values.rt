@@ -13,8 +13,8 @@ ghost use Rattle.schema_keys.specs.Here.{RefusesText};
 use crate::context::Context;
 use crate::error::BuildError;
 use crate::key::SchemaKey;
-use schema_node_table::node::NodeForm;
-use schema_traits::resolver::Resolver;
+use schema_node_table::NodeForm;
+use schema_traits::Resolver;
 use serde_json::{Map, Value};
 
 /// The value at a key's place, if it was read already.

@@ -3,5 +3,6 @@
 //! The traits of a run's parts, the context and the table of nodes are reexported.
 #![tactic(auto)]
 
-pub mod context;
-pub mod node;
+mod node;
+
+pub use node::runs::{FirstQuestion, RunNodes};

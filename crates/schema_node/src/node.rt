@@ -11,8 +11,3 @@ mod turns;
 mod verdict;
 mod verdict_asking;
 mod verdict_turns;
-
-pub use crate::node::runs::RunNodes;
-pub use schema_node_table::node::{Entry, EntryForm, Node, NodeForm, Nodes, absolute, validators};
-pub use schema_run_context::evaluation_path;
-pub use schema_traits::numbers::{Edge, PendingSchemaNode, SchemaNode};

@@ -1,4 +1,9 @@
 //! The table of numbered nodes.
 #![tactic(auto)]
 
-pub mod node;
+mod node;
+
+pub use node::absolute::{absolute_location, push_fragment};
+pub use node::name::KeywordName;
+pub use node::validators::{NodeValidator, NodeValidatorsIter};
+pub use node::{Entry, EntryForm, Node, NodeForm, Nodes};

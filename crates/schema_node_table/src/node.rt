@@ -14,8 +14,8 @@ mod sharing;
 pub mod validators;
 
 use crate::node::name::KeywordName;
-use schema_reports::location::{Location, OutOfMemory};
-use schema_traits::numbers::{Edge, SchemaNode};
+use schema_reports::{Location, OutOfMemory};
+use schema_traits::{Edge, SchemaNode};
 use serde_json::Value;
 use std::alloc::Global;
 use std::marker::Model;

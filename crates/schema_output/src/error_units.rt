@@ -4,10 +4,9 @@ ghost use Rattle.schema_reports.specs.ReportViews.{error_of};
 ghost use Rattle.schema_reports.specs.UnitViews.{unit_of};
 ghost use Rattle.schema_output.specs.ErrorUnits.{error_unit, errors_unit, root_unit};
 
-use schema_reports::evaluation::{ErrorDescription, EvaluationNode, UnitReport};
-use schema_reports::location::OutOfMemory;
-use schema_reports::reports::ValidationError;
-use schema_reports::shared_location::SharedLocation;
+use schema_reports::{
+    ErrorDescription, EvaluationNode, OutOfMemory, SharedLocation, UnitReport, ValidationError,
+};
 use std::alloc::Global;
 
 // Returns the unit of one error.

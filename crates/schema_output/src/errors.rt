@@ -6,8 +6,7 @@ ghost use Rattle.schema_reports.specs.UnitViews.{report_in, unit_of};
 ghost use Rattle.schema_output.specs.EntryViews.{AddsShown};
 ghost use Rattle.schema_output.specs.Output.{shown_by, shown_in};
 
-use schema_reports::evaluation::{ErrorDescription, EvaluationNode, UnitReport};
-use schema_reports::location::OutOfMemory;
+use schema_reports::{ErrorDescription, EvaluationNode, OutOfMemory, UnitReport};
 use std::marker::Model;
 use std::vec::IntoIter;
 

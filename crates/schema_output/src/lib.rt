@@ -2,9 +2,14 @@
 //! run.
 #![tactic(auto)]
 
-pub mod error_units;
-pub mod errors;
-pub mod evaluation;
-pub mod list;
-pub mod rows;
+mod error_units;
+mod errors;
+mod evaluation;
+mod list;
+mod rows;
 mod text;
+
+pub use error_units::unit_of_errors;
+pub use errors::{ErrorEntry, EvaluationErrors};
+pub use evaluation::Evaluation;
+pub use rows::worked_rows;

@@ -8,8 +8,7 @@ ghost use Rattle.schema_output.specs.EntryViews.{Makes, list_by, object_by};
 ghost use Rattle.schema_output.specs.Output.{errors_by_name, reports_in, schema_location, unit_object};
 ghost use Rattle.schema_output.specs.Output.{with_annotations, with_errors};
 
-use schema_reports::evaluation::{Annotations, ErrorDescription, EvaluationNode, UnitReport};
-use schema_reports::location::OutOfMemory;
+use schema_reports::{Annotations, ErrorDescription, EvaluationNode, OutOfMemory, UnitReport};
 use serde_json::{Map, Value};
 use std::alloc::Global;
 

@@ -11,9 +11,7 @@ ghost use Rattle.schema_output.specs.Texts.{Follow, IsJsonText, Prints};
 ghost use Rattle.schema_output.specs.Texts.{closing, error_text, objects_below, places_text, plain_places_text, valid_text};
 
 use crate::list::{schema_location, unit_object};
-use schema_reports::evaluation::{ErrorDescription, EvaluationNode, UnitReport};
-use schema_reports::location::OutOfMemory;
-use schema_reports::shared_location::is_plain;
+use schema_reports::{ErrorDescription, EvaluationNode, OutOfMemory, UnitReport, is_plain};
 use serde_json::Value;
 use std::alloc::Global;
 

@@ -2,6 +2,9 @@
 #![tactic(auto)]
 
 mod numbering;
-pub mod on_demand;
-pub mod places;
+mod on_demand;
+mod places;
 mod rows;
+
+pub use on_demand::PlacesOnDemand;
+pub use places::Places;

@@ -6,7 +6,7 @@ ghost use Rattle.serde_json.specs.View.{items_view, members_view, view};
 ghost use Rattle.schema_places.specs.Rows.{NamesAscend, NamesAscendInItems, NamesAscendInMembers, member_rows, rows_at};
 
 use crate::rows::Table;
-use schema_reports::location::OutOfMemory;
+use schema_reports::OutOfMemory;
 use serde_json::{Map, Value};
 use std::alloc::Global;
 

@@ -6,7 +6,7 @@ ghost use Rattle.schema_places.specs.Numbers.{NumbersAll};
 ghost use Rattle.serde_json.specs.View.{view};
 
 use crate::places::Places;
-use schema_reports::location::OutOfMemory;
+use schema_reports::OutOfMemory;
 use serde_json::Value;
 use std::alloc::Global;
 use std::marker::Model;

@@ -8,8 +8,7 @@ ghost use Rattle.serde_json.specs.View.{view};
 
 use crate::numbering::lay_out;
 use crate::rows::Table;
-use schema_reports::instance::InstanceStep;
-use schema_reports::location::OutOfMemory;
+use schema_reports::{InstanceStep, OutOfMemory};
 use serde_json::Value;
 use std::alloc::Global;
 use std::marker::Model;

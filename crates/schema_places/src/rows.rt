@@ -13,8 +13,7 @@ ghost use Rattle.schema_places.specs.Rows.{leads_to_names, led_by, members_below
 ghost use Rattle.schema_places.specs.Rows.{number_of_name, numbers_from, own_name, row_in};
 ghost use Rattle.schema_places.specs.RowViews.{AllSmall, last_at, text_at};
 
-use schema_reports::instance::InstanceStep;
-use schema_reports::location::OutOfMemory;
+use schema_reports::{InstanceStep, OutOfMemory};
 use std::alloc::Global;
 use std::cmp::Ordering;
 use std::marker::Model;

@@ -6,7 +6,7 @@ ghost use Rattle.schema_run_context.specs.Progress.{row_words};
 ghost use Rattle.schema_run_context.specs.RowViews.{rows_of};
 ghost use Rattle.schema_run_context.specs.Rows.{MakesRow, PutsBit, SameRows, has_bit, has_words, row_in, verdict_in};
 
-use schema_reports::location::OutOfMemory;
+use schema_reports::OutOfMemory;
 use std::alloc::Global;
 use std::marker::Model;
 

@@ -5,7 +5,7 @@ ghost use Rattle.theory_definitions.specs.Pointer.{joined};
 ghost use Rattle.schema_run_context.specs.EvaluationPaths.{GivesPath, is_under_reference, path_of};
 
 use crate::unit_paths::UnitTexts;
-use schema_reports::location::{Location, LocationSegment, OutOfMemory};
+use schema_reports::{Location, LocationSegment, OutOfMemory};
 use std::alloc::Global;
 
 /// The evaluation path that led to a node.

@@ -8,7 +8,7 @@ ghost use Rattle.schema_run_context.specs.EvaluationPaths.{GivesPath, IsPathTo, 
 ghost use Rattle.schema_run_context.specs.KeptPaths.{IsKept, IsKeptAt, counted, hash_for, hashed, key_for, right_path};
 
 use crate::evaluation_path::{EvaluationPath, path_from};
-use schema_reports::location::{Location, OutOfMemory};
+use schema_reports::{Location, OutOfMemory};
 use std::alloc::Global;
 use std::collections::HashMap;
 use std::hash::{FoldHasher, Hasher};

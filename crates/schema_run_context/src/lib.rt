@@ -1,11 +1,20 @@
 //! The context of a run: what is in progress, marked, and remembered.
 #![tactic(auto)]
 
-pub mod bit_rows;
-pub mod evaluation_path;
-pub mod kept_paths;
-pub mod marks;
-pub mod numbered_pairs;
-pub mod unit_paths;
-pub mod validation;
-pub mod work;
+mod bit_rows;
+mod evaluation_path;
+mod kept_paths;
+mod marks;
+mod numbered_pairs;
+mod unit_paths;
+mod validation;
+mod work;
+
+pub use bit_rows::{Rows, row_words};
+pub use evaluation_path::{EvaluationPath, path_from};
+pub use kept_paths::KeptPaths;
+pub use marks::{Marks, child_edge};
+pub use numbered_pairs::{NumberedPair, count_at, make_counts, push_within};
+pub use unit_paths::{UnitPaths, UnitTexts};
+pub use validation::ValidationContext;
+pub use work::Work;

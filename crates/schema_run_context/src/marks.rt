@@ -7,9 +7,8 @@ ghost use Rattle.schema_traits.specs.KeywordViews.{marked_of};
 ghost use Rattle.schema_run_context.specs.MarkViews.{edges_of, is_marked, last_first, marks_with};
 ghost use Rattle.schema_traits.specs.EdgeViews.{edge_of};
 
-use schema_reports::location::OutOfMemory;
-use schema_traits::keyword::Marked;
-use schema_traits::numbers::Edge;
+use schema_reports::OutOfMemory;
+use schema_traits::{Edge, Marked};
 use std::alloc::Global;
 use std::marker::Model;
 

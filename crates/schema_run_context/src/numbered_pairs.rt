@@ -2,8 +2,8 @@
 ghost use Rattle.std.specs.Prelude.{◌≡◌, ◌<◌, ◌++◌, ◌∷◌, ◌⊎◌, [], ℕ, OnErr, OnOk, length, slice_index_or};
 ghost use Rattle.std.specs.Vec.{vec_capacity, vec_len};
 
-use schema_reports::location::OutOfMemory;
-use schema_traits::numbers::SchemaNode;
+use schema_reports::OutOfMemory;
+use schema_traits::SchemaNode;
 use std::alloc::Global;
 
 /// A node that is evaluated at a place, and the place's number.

@@ -7,8 +7,7 @@ ghost use Rattle.schema_run_context.specs.EvaluationPaths.{is_under_reference, p
 ghost use Rattle.schema_run_context.specs.UnitPaths.{GivesAfter, IsAfter, added_text};
 
 use crate::evaluation_path::{EvaluationPath, path_from};
-use schema_reports::location::{Location, OutOfMemory};
-use schema_reports::shared_location::SharedLocation;
+use schema_reports::{Location, OutOfMemory, SharedLocation};
 use std::alloc::Global;
 use std::mem;
 

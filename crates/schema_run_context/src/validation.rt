@@ -26,19 +26,13 @@ use crate::marks::Marks;
 use crate::numbered_pairs::{NumberedPair, count_at, make_counts, push_within};
 use crate::unit_paths::{UnitPaths, UnitTexts};
 use crate::work::Work;
-use schema_places::on_demand::PlacesOnDemand;
-use schema_places::places::Places;
-use schema_reports::instance::Instance;
-use schema_reports::location::{Location, OutOfMemory};
-use schema_reports::shared_location::SharedLocation;
-use schema_traits::keyword::Marked;
-use schema_traits::matcher::Matcher;
-use schema_traits::numbers::{Edge, SchemaNode};
+use schema_places::{Places, PlacesOnDemand};
+use schema_reports::{Instance, Location, OutOfMemory, SharedLocation};
+use schema_traits::{Edge, Marked, Matcher, SchemaNode};
 use std::alloc::Global;
 use std::marker::Model;
 use std::mem;
-use unfinished_matches::assumptions::MatchAssumptions;
-use unfinished_matches::site::{Match, MatchSite, Reason};
+use unfinished_matches::{Match, MatchAssumptions, MatchSite, Reason};
 
 /// A verdict that took this many guarded visits, its own included, is remembered.
 const MEMO_MIN_VISITS: u64 = 16;

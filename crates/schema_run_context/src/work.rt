@@ -2,7 +2,7 @@
 ghost use Rattle.std.specs.Prelude.{◌≡◌, ◌-◌, OnErr, OnOk, false, true};
 ghost use Rattle.schema_run_context.specs.Works.{Asks, IsSpent, allowed, left_of, unlimited};
 
-use schema_reports::location::OutOfMemory;
+use schema_reports::OutOfMemory;
 use std::alloc::AllocError;
 use std::marker::Model;
 

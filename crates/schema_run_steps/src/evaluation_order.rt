@@ -7,8 +7,7 @@ ghost use Rattle.schema_reports.specs.UnitViews.{unit_of};
 ghost use Rattle.theory_definitions.specs.UnitOrder.{all_placed, nothing_placed, placed, with_absorbed};
 ghost use Rattle.schema_run_steps.specs.EntryUnits.{absorbed_of, entry_units_of, placed_of};
 
-use schema_reports::evaluation::{ChildList, EvaluationNode};
-use schema_reports::location::OutOfMemory;
+use schema_reports::{ChildList, EvaluationNode, OutOfMemory};
 use std::alloc::Global;
 
 /// The unit of a keyword that another one absorbs, with its name.

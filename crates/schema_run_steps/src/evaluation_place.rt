@@ -7,9 +7,8 @@ ghost use Rattle.theory_definitions.specs.Pointer.{pointer_to};
 ghost use Rattle.schema_places.specs.Numbers.{number_of};
 ghost use Rattle.schema_run_steps.specs.EvaluationPlaces.{CarriesItsNumber, steps_to};
 
-use schema_places::places::Places;
-use schema_reports::instance::{InstanceStep, Place, push_step};
-use schema_reports::location::{Location, OutOfMemory};
+use schema_places::Places;
+use schema_reports::{InstanceStep, Location, OutOfMemory, Place, push_step};
 use std::alloc::Global;
 
 // The room in bytes of a new pointer that is not empty. Most pointers fit, and computing the exact

@@ -15,15 +15,13 @@ ghost use Rattle.schema_run_steps.specs.FaultWords.{ErrorStandsAt, SaysAnswer, S
 use crate::question::Question;
 use crate::replies::{keyword_location, stamped_error};
 use crate::spots::{after, place_below};
-use schema_node_table::node::Node;
-use schema_node_table::node::name::KeywordName;
-use schema_reports::evaluation_result::{EvaluationResult, accepts};
-use schema_reports::instance::{Instance, InstanceStep, Place};
-use schema_reports::location::{Location, OutOfMemory};
-use schema_reports::reports::ValidationError;
-use schema_run_context::evaluation_path::path_from;
-use schema_run_context::validation::ValidationContext;
-use schema_traits::keyword::{Answer, Fault, Found, Mode, OwnError, Reply};
+use schema_node_table::{KeywordName, Node};
+use schema_reports::{
+    EvaluationResult, Instance, InstanceStep, Location, OutOfMemory, Place, ValidationError,
+    accepts,
+};
+use schema_run_context::{ValidationContext, path_from};
+use schema_traits::{Answer, Fault, Found, Mode, OwnError, Reply};
 use std::alloc::Global;
 
 /// Returns an answer that has found nothing yet.

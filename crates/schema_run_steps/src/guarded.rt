@@ -11,10 +11,9 @@ ghost use Rattle.schema_run_steps.specs.GuardedPairs.{ComesLast, HasNumberIn, Is
 ghost use Rattle.schema_run_steps.specs.GuardedPairs.{read_in, remembered_in};
 
 use crate::evaluation_place::EvaluationPlace;
-use schema_reports::instance::Instance;
-use schema_reports::location::OutOfMemory;
-use schema_run_context::validation::ValidationContext;
-use schema_traits::numbers::SchemaNode;
+use schema_reports::{Instance, OutOfMemory};
+use schema_run_context::ValidationContext;
+use schema_traits::SchemaNode;
 
 /// A node that is evaluated at a place, and the place's number.
 #[derive(Clone, Copy)]

@@ -10,14 +10,12 @@ ghost use Rattle.schema_run_steps.specs.MatchWords.{AsksInside, AsksMatch, OfMat
 
 use crate::question::{Engine, Question};
 use crate::sites::match_site;
-use schema_node_table::node::Node;
-use schema_node_table::node::name::KeywordName;
-use schema_reports::location::OutOfMemory;
-use schema_run_context::validation::ValidationContext;
-use schema_traits::keyword::{MatchPoint, Step};
-use schema_traits::matcher::Matcher;
+use schema_node_table::{KeywordName, Node};
+use schema_reports::OutOfMemory;
+use schema_run_context::ValidationContext;
+use schema_traits::{MatchPoint, Matcher, Step};
 use std::alloc::Global;
-use unfinished_matches::site::Match;
+use unfinished_matches::Match;
 
 /// Returns the outcome of a match, from a matcher that finishes every match.
 ///

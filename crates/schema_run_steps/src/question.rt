@@ -1,12 +1,10 @@
 //! The parts that a run is made with, and the questions that it answers.
 
 use crate::evaluation_place::EvaluationPlace;
-use schema_node_table::node::Nodes;
-use schema_node_table::node::name::KeywordName;
-use schema_reports::instance::Instance;
-use schema_run_context::evaluation_path::EvaluationPath;
-use schema_traits::keyword::Mode;
-use schema_traits::numbers::Edge;
+use schema_node_table::{KeywordName, Nodes};
+use schema_reports::Instance;
+use schema_run_context::EvaluationPath;
+use schema_traits::{Edge, Mode};
 use std::alloc::Global;
 
 /// The parts that a run is made with, and that it does not change.

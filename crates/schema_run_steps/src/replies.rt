@@ -14,12 +14,9 @@ ghost use Rattle.schema_run_steps.specs.FaultWords.{BorrowsAsked};
 ghost use Rattle.schema_run_steps.specs.ReplyWords.{BorrowsBoth, SaysBoth, SaysFalse, StampsError, StampsReply, StayBorrowed};
 
 use crate::question::Question;
-use schema_node_table::node::Node;
-use schema_node_table::node::absolute::absolute_location;
-use schema_node_table::node::name::KeywordName;
-use schema_reports::location::{Location, LocationSegment, OutOfMemory};
-use schema_reports::reports::ValidationError;
-use schema_traits::keyword::{Mode, Reply};
+use schema_node_table::{KeywordName, Node, absolute_location};
+use schema_reports::{Location, LocationSegment, OutOfMemory, ValidationError};
+use schema_traits::{Mode, Reply};
 use std::alloc::Global;
 
 /// Returns the reply "valid", without errors.

@@ -9,14 +9,12 @@ ghost use Rattle.schema_run_steps.specs.MatchWords.{AsksInside, plain_point, sit
 
 use crate::question::Question;
 use crate::spots::{own_steps, place_below, step_below};
-use schema_node_table::node::Node;
-use schema_node_table::node::name::KeywordName;
-use schema_reports::instance::{InstanceStep, Place};
-use schema_reports::location::{Location, OutOfMemory};
-use schema_run_context::evaluation_path::path_from;
-use schema_traits::keyword::{Below, MatchPoint, Spot};
+use schema_node_table::{KeywordName, Node};
+use schema_reports::{InstanceStep, Location, OutOfMemory, Place};
+use schema_run_context::path_from;
+use schema_traits::{Below, MatchPoint, Spot};
 use std::alloc::Global;
-use unfinished_matches::site::MatchSite;
+use unfinished_matches::MatchSite;
 
 // Returns the evaluation path of a keyword with this name and what follows, and the place some
 // steps below the question's own.

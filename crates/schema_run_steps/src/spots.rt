@@ -7,9 +7,8 @@ ghost use Rattle.schema_traits.specs.KeywordViews.{below_of};
 ghost use Rattle.schema_run_steps.specs.PlaceWords.{HasSteps, place_under, subject_after};
 
 use crate::evaluation_place::EvaluationPlace;
-use schema_reports::instance::{Instance, InstanceStep, Place};
-use schema_reports::location::OutOfMemory;
-use schema_traits::keyword::Below;
+use schema_reports::{Instance, InstanceStep, OutOfMemory, Place};
+use schema_traits::Below;
 use std::alloc::Global;
 
 /// Returns the step to a child's instance, or `None` if it is the keyword's own.

@@ -20,18 +20,13 @@ ghost use Rattle.schema_run_steps.specs.UnitWords.{IsUnit, UnitStandsAt, report_
 use crate::evaluation_order::{AbsorbedUnit, EntryUnits};
 use crate::question::Question;
 use crate::replies::false_error;
-use schema_node_table::node::Node;
-use schema_node_table::node::absolute::absolute_location;
-use schema_node_table::node::name::KeywordName;
-use schema_reports::evaluation::{
-    Annotations, ChildList, ErrorDescription, EvaluationNode, UnitReport,
+use schema_node_table::{KeywordName, Node, absolute_location};
+use schema_reports::{
+    AbsorbedResult, Annotations, ChildList, ErrorDescription, EvaluationNode, EvaluationResult,
+    OutOfMemory, SharedLocation, UnitReport,
 };
-use schema_reports::evaluation_result::{AbsorbedResult, EvaluationResult};
-use schema_reports::location::OutOfMemory;
-use schema_reports::shared_location::SharedLocation;
-use schema_run_context::unit_paths::UnitTexts;
-use schema_run_context::validation::ValidationContext;
-use schema_traits::keyword::{Answer, Found};
+use schema_run_context::{UnitTexts, ValidationContext};
+use schema_traits::{Answer, Found};
 use std::alloc::Global;
 
 // The locations of a unit.

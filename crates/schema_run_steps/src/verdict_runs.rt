@@ -8,7 +8,7 @@ ghost use Rattle.schema_run_steps.specs.FaultWords.{IsVerdictOf};
 ghost use Rattle.schema_run_steps.specs.VerdictRuns.{told_reply};
 
 use crate::faults::is_accepting;
-use schema_traits::keyword::{Answer, Reply};
+use schema_traits::{Answer, Reply};
 
 /// Returns the verdict of an answer.
 #[inline(always)]

@@ -4,8 +4,13 @@
 //! place at most as often as there are numbers.
 #![tactic(auto)]
 
-pub mod eligible;
-pub mod monotone;
-pub mod question;
-pub mod solve;
+mod eligible;
+mod monotone;
+mod question;
+mod solve;
 mod told;
+
+pub use eligible::{SolvedVerdict, Solver};
+pub use monotone::is_monotone;
+pub use question::{Asked, SolverEngine, Stopped};
+pub use solve::solve_root;

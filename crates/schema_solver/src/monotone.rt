@@ -7,9 +7,8 @@ ghost use Rattle.schema_solver.specs.Saying.{EachSays, form_says, node_says, tab
 ghost use Rattle.schema_node_table.specs.NodeTable.{numbered};
 ghost use Rattle.schema_node_table.specs.NodeViews.{form_of, node_of};
 
-use schema_node_table::node::{Entry, EntryForm, Node, NodeForm, Nodes};
-use schema_traits::keyword::Validate;
-use schema_traits::numbers::SchemaNode;
+use schema_node_table::{Entry, EntryForm, Node, NodeForm, Nodes};
+use schema_traits::{SchemaNode, Validate};
 
 // Returns whether the keyword of an entry says that it is monotone; a reference counts as monotone.
 fn entry_says<K: Validate>(entry: &Entry<K>) -> bool

@@ -1,10 +1,10 @@
 //! The parts of a solver, its questions, and the reasons why it may stop.
 ghost use Rattle.std.specs.Prelude.{◌≡◌};
 
-use schema_node_table::node::Nodes;
-use schema_reports::instance::Instance;
-use schema_run_steps::evaluation_place::EvaluationPlace;
-use schema_solver_state::followed::Followed;
+use schema_node_table::Nodes;
+use schema_reports::Instance;
+use schema_run_steps::EvaluationPlace;
+use schema_solver_state::Followed;
 use std::alloc::{AllocError, Global};
 
 /// The parts that a solver is made with. It does not change them.

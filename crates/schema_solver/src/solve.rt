@@ -11,12 +11,10 @@ mod turns;
 
 use crate::question::{Asked, SolverEngine, Stopped};
 use crate::solve::entries::solve_node;
-use schema_reports::instance::{Instance, Place};
-use schema_run_steps::evaluation_place::EvaluationPlace;
-use schema_solver_state::context::SolverContext;
-use schema_traits::keyword::Validate;
-use schema_traits::matcher::Matcher;
-use schema_traits::numbers::SchemaNode;
+use schema_reports::{Instance, Place};
+use schema_run_steps::EvaluationPlace;
+use schema_solver_state::SolverContext;
+use schema_traits::{Matcher, SchemaNode, Validate};
 use serde_json::Value;
 
 /// Returns the verdict of a node of an instance, at the root place.

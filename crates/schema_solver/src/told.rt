@@ -4,7 +4,7 @@ ghost use Rattle.schema_solver_state.specs.Saying.{said_as, settled_as};
 ghost use Rattle.schema_solver.specs.Telling.{ends_with, leans_in};
 
 use crate::question::Stopped;
-use schema_solver_state::said::Said;
+use schema_solver_state::Said;
 use std::marker::Model;
 
 // All possible answers. They fit into one byte, so that a call whose answer is the caller's own can

@@ -18,14 +18,12 @@ ghost use Rattle.schema_solver_state.specs.AtNumbers.{AcceptsAt, AssumesAt, Assu
 ghost use Rattle.schema_solver_state.specs.AtNumbers.{RemembersAt, SettlesAt, SettlesBesideAt, same_mark};
 
 use crate::said::Said;
-use schema_places::on_demand::PlacesOnDemand;
-use schema_places::places::Places;
-use schema_reports::location::OutOfMemory;
-use schema_run_context::bit_rows::{Rows, row_words};
-use schema_run_context::marks::Marks;
-use schema_run_context::numbered_pairs::{NumberedPair, count_at, make_counts, push_within};
-use schema_traits::keyword::Marked;
-use schema_traits::numbers::{Edge, SchemaNode};
+use schema_places::{Places, PlacesOnDemand};
+use schema_reports::OutOfMemory;
+use schema_run_context::{
+    Marks, NumberedPair, Rows, count_at, make_counts, push_within, row_words,
+};
+use schema_traits::{Edge, Marked, SchemaNode};
 use std::alloc::Global;
 use std::marker::Model;
 use std::mem;

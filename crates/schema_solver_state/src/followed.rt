@@ -6,9 +6,9 @@ ghost use Rattle.schema_solver_state.specs.Following.{AreWays, Counts, Covers, I
 ghost use Rattle.schema_solver_state.specs.Following.{child_edges, edges_of, entries_edges, entry_edges};
 
 use crate::weights::{weight_of, weights_of};
-use schema_node_table::node::{Entry, EntryForm, Node, NodeForm, Nodes};
-use schema_reports::location::OutOfMemory;
-use schema_traits::numbers::{Edge, SchemaNode};
+use schema_node_table::{Entry, EntryForm, Node, NodeForm, Nodes};
+use schema_reports::OutOfMemory;
+use schema_traits::{Edge, SchemaNode};
 use std::alloc::Global;
 use std::marker::Model;
 

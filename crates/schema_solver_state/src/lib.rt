@@ -2,8 +2,13 @@
 //! that the solver inlines.
 #![tactic(auto)]
 
-pub mod context;
-pub mod followed;
-pub mod pair;
-pub mod said;
+mod context;
+mod followed;
+mod pair;
+mod said;
 pub(crate) mod weights;
+
+pub use context::SolverContext;
+pub use followed::{Followed, MOST_NODES};
+pub use pair::SolverPair;
+pub use said::Said;

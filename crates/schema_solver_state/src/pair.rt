@@ -10,9 +10,9 @@ ghost use Rattle.schema_solver_state.specs.SolverPairs.{KeepsAnswer, PairBegins,
 
 use crate::context::SolverContext;
 use crate::said::Said;
-use schema_reports::location::OutOfMemory;
-use schema_run_steps::evaluation_place::EvaluationPlace;
-use schema_traits::numbers::SchemaNode;
+use schema_reports::OutOfMemory;
+use schema_run_steps::EvaluationPlace;
+use schema_traits::SchemaNode;
 
 /// A node that is evaluated at a place, with the place's number.
 #[derive(Clone, Copy)]

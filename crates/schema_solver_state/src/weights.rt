@@ -4,9 +4,9 @@ ghost use Rattle.schema_traits.specs.EdgeViews.{edge_of};
 ghost use Rattle.schema_solver_state.specs.Following.{Covers, child_edges, edge_weight, edges_of, entries_edges, entry_edges};
 ghost use Rattle.schema_solver_state.specs.Following.{weight_in, weight_together};
 
-use schema_node_table::node::{Entry, EntryForm, Node, NodeForm, Nodes};
-use schema_reports::location::OutOfMemory;
-use schema_traits::numbers::{Edge, SchemaNode};
+use schema_node_table::{Entry, EntryForm, Node, NodeForm, Nodes};
+use schema_reports::OutOfMemory;
+use schema_traits::{Edge, SchemaNode};
 use std::alloc::Global;
 
 /// The weight that stands for too many nodes to count. A number that leads to a guarded edge has

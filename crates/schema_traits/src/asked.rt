@@ -5,7 +5,7 @@ pub mod counted;
 pub mod members;
 pub mod names;
 
-use schema_reports::instance::{Instance, InstanceStep};
+use schema_reports::{Instance, InstanceStep};
 
 /// A question: which child is asked, and where.
 ///

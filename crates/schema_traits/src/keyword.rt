@@ -17,11 +17,10 @@ ghost use Rattle.schema_traits.specs.KeywordViews.{mode_of, reply_of, answer_of,
 ghost use Rattle.schema_traits.specs.UnitQuestions.{AsksNoUnits};
 
 use crate::asking::Asking;
-use schema_reports::evaluation::EvaluationNode;
-use schema_reports::evaluation_result::{AbsorbedResult, EvaluationResult};
-use schema_reports::instance::{Instance, InstanceStep};
-use schema_reports::location::OutOfMemory;
-use schema_reports::reports::ValidationError;
+use schema_reports::{
+    AbsorbedResult, EvaluationNode, EvaluationResult, Instance, InstanceStep, OutOfMemory,
+    ValidationError,
+};
 use std::alloc::Global;
 
 /// What a run is to find.

@@ -5,9 +5,9 @@ ghost use Rattle.theory_definitions.specs.Matching as spec;
 ghost use Rattle.unfinished_matches.specs.MatchViews.{match_of};
 ghost use Rattle.schema_traits.specs.MatcherViews.{FinishesEach};
 
-use schema_reports::location::OutOfMemory;
+use schema_reports::OutOfMemory;
 use std::alloc::Global;
-use unfinished_matches::site::Match;
+use unfinished_matches::Match;
 
 /// A regular expression engine.
 ///

@@ -8,9 +8,8 @@ ghost use Rattle.theory_definitions.specs.Reports.{Error};
 ghost use Rattle.schema_drafts.specs.KeywordViews.{draft_of};
 ghost use Rattle.schema_reports.specs.ReportViews.{BorrowsItsPlace, error_of};
 
-use schema_drafts::keywords::Draft;
-use schema_reports::location::OutOfMemory;
-use schema_reports::reports::ValidationError;
+use schema_drafts::Draft;
+use schema_reports::{OutOfMemory, ValidationError};
 use serde_json::Value;
 use std::alloc::Global;
 

@@ -1,6 +1,6 @@
 //! The numbers of nodes, and the edges that lead to them.
 
-use schema_reports::location::Location;
+use schema_reports::Location;
 
 /// The number of a node.
 #[derive(Clone, Copy, PartialEq, Eq)]

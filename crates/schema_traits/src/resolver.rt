@@ -11,8 +11,8 @@ ghost use Rattle.schema_traits.specs.ResolverViews.{KeepsDraft, placed_in, place
 ghost use Rattle.schema_traits.specs.Showing.{Agrees, Shows, Yields};
 
 use crate::schema_place::{SchemaPath, SchemaPlace};
-use schema_drafts::keywords::{Draft, VocabularySet};
-use schema_reports::location::OutOfMemory;
+use schema_drafts::{Draft, VocabularySet};
+use schema_reports::OutOfMemory;
 use serde_json::{Map, Value};
 use std::alloc::{AllocError, AllocFailed, Global};
 use std::hash::Hash;

@@ -10,7 +10,7 @@ ghost use Rattle.theory_definitions.specs.Drafts.{same_schema_place, at_path};
 ghost use Rattle.schema_traits.specs.SchemaViews.{schema_step_of};
 ghost use Rattle.schema_traits.specs.ResolverViews.{place_of};
 
-use schema_reports::location::{Location, LocationSegment, OutOfMemory};
+use schema_reports::{Location, LocationSegment, OutOfMemory};
 use std::alloc::{AllocError, Global};
 use std::marker::Model;
 use std::rc::RcStr;

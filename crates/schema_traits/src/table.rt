@@ -12,9 +12,8 @@ ghost use Rattle.schema_traits.specs.MakerViews.{Waiting, begun, is_own, name_of
 use crate::keyword::Validate;
 use crate::numbers::PendingSchemaNode;
 use crate::schema_place::SchemaPath;
-use schema_drafts::keywords::{Draft, VocabularySet};
-use schema_reports::location::OutOfMemory;
-use schema_reports::reports::OwnedError;
+use schema_drafts::{Draft, VocabularySet};
+use schema_reports::{OutOfMemory, OwnedError};
 use serde_json::{Map, Value};
 use std::alloc::Global;
 

@@ -9,12 +9,8 @@ ghost use Rattle.schema_compiled.specs.Solved.{HasSolver};
 
 use crate::options::ValidationOptions;
 use crate::validator::Validator;
-use schema_keys::error::BuildError;
-use schema_traits::keyword::Validate;
-use schema_traits::matcher::Matcher;
-use schema_traits::meta::MetaValidators;
-use schema_traits::resolver::Resolver;
-use schema_traits::table::KeywordTable;
+use schema_keys::BuildError;
+use schema_traits::{KeywordTable, Matcher, MetaValidators, Resolver, Validate};
 use serde_json::Value;
 use std::alloc::Global;
 

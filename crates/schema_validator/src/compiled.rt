@@ -6,15 +6,11 @@ ghost use Rattle.schema_validator.specs.CallWords.{IsMadeOf};
 ghost use Rattle.schema_validator.specs.Handed.{default_runs};
 
 use crate::validator::{CallLimits, Validator};
-use schema_drafts::keywords::Draft;
-use schema_node_table::node::Nodes;
-use schema_reports::location::OutOfMemory;
-use schema_solver::eligible::Solver;
-use schema_traits::keyword::Validate;
-use schema_traits::matcher::Matcher;
-use schema_traits::numbers::SchemaNode;
-use schema_traits::resolver::Resolver;
-use schema_traits::table::KeywordTable;
+use schema_drafts::Draft;
+use schema_node_table::Nodes;
+use schema_reports::OutOfMemory;
+use schema_solver::Solver;
+use schema_traits::{KeywordTable, Matcher, Resolver, SchemaNode, Validate};
 use std::alloc::Global;
 use unfinished_search::MAX_ASSUMED_RUNS;
 

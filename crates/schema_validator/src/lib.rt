@@ -4,10 +4,14 @@
 //! and the calls of a validator.
 #![tactic(auto)]
 
-pub mod building;
-pub mod compiled;
-pub mod map;
-pub mod options;
-pub mod validator;
+mod building;
+mod compiled;
+mod map;
+mod options;
+mod validator;
 
-pub use schema_compiled::stopping;
+pub use compiled::of_compiled;
+pub use map::ValidatorMap;
+pub use options::ValidationOptions;
+pub use options::root::root_key;
+pub use validator::Validator;

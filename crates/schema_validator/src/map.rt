@@ -5,8 +5,8 @@ ghost use Rattle.std.specs.Map.{keys_of};
 ghost use Rattle.schema_validator.specs.MapViews.{EachOnce, PutsAt, at_pointer};
 
 use crate::validator::Validator;
-use schema_reports::location::OutOfMemory;
-use schema_traits::keyword::Validate;
+use schema_reports::OutOfMemory;
+use schema_traits::Validate;
 use std::alloc::Global;
 use std::collections::BTreeMap;
 use std::collections::btree_map::Keys;

@@ -4,9 +4,9 @@ ghost use Rattle.schema_drafts.specs.KeywordViews.{draft_of};
 ghost use Rattle.schema_traits.specs.Showing.{Yields};
 ghost use Rattle.schema_validator.specs.Handed.{default_options};
 
-use schema_drafts::keywords::Draft;
-use schema_keys::options::CompileOptions;
-use schema_reports::location::OutOfMemory;
+use schema_drafts::Draft;
+use schema_keys::CompileOptions;
+use schema_reports::OutOfMemory;
 use std::alloc::Global;
 use std::marker::Model;
 use unfinished_search::MAX_ASSUMED_RUNS;

@@ -8,14 +8,9 @@ use crate::items::{turn_later_items, turn_listed_items};
 use crate::names::Names;
 use crate::unexpected::NoLaterItems;
 use crate::wants::Wants;
-use keyword_authoring::items::items_of;
-use keyword_authoring::leaf::{LeafKeyword, turn_leaf};
-use keyword_authoring::planned::Planned;
-use keyword_authoring::run::Progress;
-use schema_reports::instance::Instance;
-use schema_reports::location::OutOfMemory;
-use schema_traits::asking::Asking;
-use schema_traits::keyword::{Answer, Mode, Reply, Step, Validate};
+use keyword_authoring::{LeafKeyword, Planned, Progress, items_of, turn_leaf};
+use schema_reports::{Instance, OutOfMemory};
+use schema_traits::{Answer, Asking, Mode, Reply, Step, Validate};
 use std::alloc::Global;
 
 /// A keyword that applies schemas to items, or if a member is present.

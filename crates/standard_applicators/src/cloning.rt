@@ -2,8 +2,8 @@
 ghost use Rattle.std.specs.Prelude.{◌≡◌};
 
 use crate::applicator::StandardApplicator;
-use keyword_authoring::planned::Planned;
-use schema_traits::cloning::CloneKeyword;
+use keyword_authoring::Planned;
+use schema_traits::CloneKeyword;
 use std::alloc::AllocError;
 
 impl Clone for StandardApplicator {

@@ -3,10 +3,8 @@ ghost use Rattle.std.specs.Prelude.{string_bytes};
 ghost use Rattle.standard_applicators.specs.Containing.{fewer_than, how_many, more_than};
 ghost use Rattle.schema_traits.specs.Showing.{Shows};
 
-use keyword_authoring::items::is_list;
-use keyword_authoring::planned::{Asks, Plan, PlannedKeyword};
-use schema_reports::instance::Instance;
-use schema_reports::location::OutOfMemory;
+use keyword_authoring::{Asks, Plan, PlannedKeyword, is_list};
+use schema_reports::{Instance, OutOfMemory};
 use std::alloc::Global;
 
 /// `contains`, with the least and the greatest number of items that may fit.

@@ -11,10 +11,9 @@ ghost use Rattle.keyword_authoring.specs.Borrowing.{Borrows, Retains};
 
 use crate::dependents::turn_dependents;
 use crate::wants::{Want, has_unmet, tell_unmet};
-use keyword_authoring::run::{Progress, Stage};
-use schema_reports::instance::Instance;
-use schema_reports::location::OutOfMemory;
-use schema_traits::keyword::{Answer, Mode, Reply, Step};
+use keyword_authoring::{Progress, Stage};
+use schema_reports::{Instance, OutOfMemory};
+use schema_traits::{Answer, Mode, Reply, Step};
 use std::alloc::Global;
 
 /// Returns whether an error that is known at once ends a run in this mode.

@@ -5,8 +5,8 @@ ghost use Rattle.standard_applicators.specs.DependencyValues.{are_lists_of_texts
 ghost use Rattle.schema_traits.specs.Readings.{Lists, ListsTexts, fields};
 
 use crate::wants::Want;
-use keyword_makers::members::push_text;
-use schema_reports::location::OutOfMemory;
+use keyword_makers::push_text;
+use schema_reports::OutOfMemory;
 use serde_json::{Map, Value};
 use std::alloc::Global;
 

@@ -8,12 +8,9 @@ ghost use Rattle.keyword_authoring.specs.TurnWords.{Steps, Turns};
 ghost use Rattle.standard_applicators.specs.RunWays.{dependents_asked};
 ghost use Rattle.keyword_authoring.specs.Borrowing.{Borrows};
 
-use keyword_authoring::members::has_member;
-use keyword_authoring::passing::onward;
-use keyword_authoring::run::{Progress, Stage};
-use schema_reports::instance::Instance;
-use schema_reports::location::OutOfMemory;
-use schema_traits::keyword::{Answer, Below, Reply, Step};
+use keyword_authoring::{Progress, Stage, has_member, onward};
+use schema_reports::{Instance, OutOfMemory};
+use schema_traits::{Answer, Below, Reply, Step};
 use std::alloc::Global;
 
 /// Takes a turn of `dependentSchemas`.

@@ -10,17 +10,31 @@
 //! (`specs/Courses`).
 #![tactic(auto)]
 
-pub mod applicator;
+mod applicator;
 mod beside;
 mod cloning;
-pub mod contains;
-pub mod dependencies;
+mod contains;
+mod dependencies;
 mod dependency_values;
-pub mod dependents;
-pub mod items;
+mod dependents;
+mod items;
 mod limits;
-pub mod meanings;
-pub mod names;
-pub mod table;
-pub mod unexpected;
-pub mod wants;
+mod meanings;
+mod names;
+mod table;
+mod unexpected;
+mod wants;
+
+pub use applicator::StandardApplicator;
+pub use contains::Contains;
+pub use dependencies::turn_dependencies;
+pub use dependents::turn_dependents;
+pub use items::{turn_later_items, turn_listed_items};
+pub use meanings::{
+    contains_means, dependencies_mean, dependent_schemas_means, later_items_mean,
+    listed_items_mean, no_later_items_means,
+};
+pub use names::Names;
+pub use table::StandardApplicatorTable;
+pub use unexpected::NoLaterItems;
+pub use wants::{Want, Wants, has_unmet, tell_unmet};

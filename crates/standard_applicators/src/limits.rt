@@ -6,9 +6,9 @@ ghost use Rattle.standard_applicators.specs.Limits.{contains_in, has_limits, lim
 ghost use Rattle.schema_traits.specs.Readings.{fields, value_read};
 
 use crate::contains::Contains;
-use json_values::multiples::natural_of;
-use keyword_makers::paths::value_in;
-use schema_drafts::keywords::Draft;
+use json_values::natural_of;
+use keyword_makers::value_in;
+use schema_drafts::Draft;
 use serde_json::{Map, Value};
 
 /// Returns whether a draft has `minContains` and `maxContains`.

@@ -15,15 +15,14 @@ use crate::limits::{contains_in, refused_limit};
 use crate::names::Names;
 use crate::unexpected::NoLaterItems;
 use crate::wants::Wants;
-use keyword_authoring::planned::Planned;
-use keyword_makers::lists::{each_schema, list_length};
-use keyword_makers::maker::{Ending, PathsMaker, asks_for, ends, only_child};
-use keyword_makers::members::{names_of, values_below};
-use keyword_makers::paths::value_in;
-use keyword_makers::refusals::malformed;
-use schema_drafts::keywords::{Draft, VocabularySet};
-use schema_reports::location::OutOfMemory;
-use schema_traits::table::{KeywordOrigin, KeywordTable, MakerReply, MakerStep};
+use keyword_authoring::Planned;
+use keyword_makers::{
+    Ending, PathsMaker, asks_for, each_schema, ends, list_length, malformed, names_of, only_child,
+    value_in, values_below,
+};
+use schema_drafts::{Draft, VocabularySet};
+use schema_reports::OutOfMemory;
+use schema_traits::{KeywordOrigin, KeywordTable, MakerReply, MakerStep};
 use serde_json::{Map, Value};
 use std::alloc::Global;
 

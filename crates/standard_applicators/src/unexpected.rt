@@ -6,10 +6,8 @@ ghost use Rattle.schema_reports.specs.InstanceViews.{subject_of};
 ghost use Rattle.standard_applicators.specs.Unexpected.{items_after, listed, subject_items, were};
 ghost use Rattle.keyword_authoring.specs.TextWords.{Adds};
 
-use keyword_authoring::items::item_count;
-use keyword_authoring::leaf::LeafKeyword;
-use schema_reports::instance::Instance;
-use schema_reports::location::OutOfMemory;
+use keyword_authoring::{LeafKeyword, item_count};
+use schema_reports::{Instance, OutOfMemory};
 use serde_json::Value;
 use std::alloc::Global;
 

@@ -8,11 +8,9 @@ ghost use Rattle.standard_applicators.specs.UnmetWords.{with_unmet};
 ghost use Rattle.schema_traits.specs.Showing.{Shows, Yields};
 ghost use Rattle.keyword_authoring.specs.Borrowing.{Retains};
 
-use keyword_authoring::answers::{note, refuse};
-use keyword_authoring::members::has_member;
-use schema_reports::instance::Instance;
-use schema_reports::location::OutOfMemory;
-use schema_traits::keyword::{Answer, Mode};
+use keyword_authoring::{has_member, note, refuse};
+use schema_reports::{Instance, OutOfMemory};
+use schema_traits::{Answer, Mode};
 use std::alloc::{AllocError, Global};
 use std::marker::Model;
 

@@ -15,14 +15,10 @@ use crate::multiples::{is_multiple, multiple_text};
 use crate::numbers::HeldNumber;
 use crate::sizes::{SizeKind, size_fits, size_text};
 use crate::types::{Integers, TypeList, fits, fits_one};
-use json_values::held::HeldValue;
-use keyword_authoring::items::item_count;
-use keyword_authoring::leaves::TellingKeyword;
-use schema_reports::instance::Instance;
-use schema_reports::location::OutOfMemory;
-use standard_basics::counts::{CountKind, count_fits, count_text};
-use standard_basics::type_names::TypeName;
-use standard_basics::types::{type_text, types_text};
+use json_values::HeldValue;
+use keyword_authoring::{TellingKeyword, item_count};
+use schema_reports::{Instance, OutOfMemory};
+use standard_basics::{CountKind, TypeName, count_fits, count_text, type_text, types_text};
 use std::alloc::Global;
 
 /// A keyword that evaluates no schema, such as `type` or `minimum`.

@@ -2,7 +2,7 @@
 ghost use Rattle.std.specs.Prelude.{◌≡◌};
 
 use crate::assertion::Assertion;
-use keyword_authoring::cloning::CloneTelling;
+use keyword_authoring::CloneTelling;
 use std::alloc::AllocError;
 
 impl Clone for Assertion {

@@ -12,11 +12,8 @@ ghost use Rattle.standard_assertions.specs.Constants.{items_in, listed_text, mor
 ghost use Rattle.keyword_authoring.specs.TextWords.{Adds, ShowsText};
 ghost use Rattle.schema_traits.specs.Showing.{Yields};
 
-use json_values::distinct::are_all_distinct;
-use json_values::equality::{are_all_distinct_by_pairs, is_among};
-use json_values::held::HeldValue;
-use schema_reports::instance::Instance;
-use schema_reports::location::OutOfMemory;
+use json_values::{HeldValue, are_all_distinct, are_all_distinct_by_pairs, is_among};
+use schema_reports::{Instance, OutOfMemory};
 use serde_json::Value;
 use std::alloc::Global;
 

@@ -8,12 +8,11 @@ ghost use Rattle.standard_basics.specs.Words.{required_text};
 ghost use Rattle.standard_assertions.specs.Dependents.{missing_dependents, missing_names, missing_of, wanted_by_each, AddsRequired};
 ghost use Rattle.schema_traits.specs.Readings.{ListsTexts, fields};
 
-use json_values::held::HeldValue;
-use keyword_authoring::members::has_member;
-use schema_reports::instance::Instance;
-use schema_reports::location::OutOfMemory;
+use json_values::HeldValue;
+use keyword_authoring::has_member;
+use schema_reports::{Instance, OutOfMemory};
 use serde_json::{Map, Value};
-use standard_basics::required::required_text;
+use standard_basics::required_text;
 use std::alloc::Global;
 
 /// Returns whether an instance has a member for each of the names.

@@ -9,9 +9,8 @@ ghost use Rattle.standard_assertions.specs.Limits.{is_within, keeps_limit, limit
 ghost use Rattle.keyword_authoring.specs.TextWords.{ShowsText};
 
 use crate::numbers::HeldNumber;
-use json_values::numbers::{is_at_most, is_less};
-use schema_reports::instance::Instance;
-use schema_reports::location::OutOfMemory;
+use json_values::{is_at_most, is_less};
+use schema_reports::{Instance, OutOfMemory};
 use serde_json::Number;
 use std::alloc::Global;
 

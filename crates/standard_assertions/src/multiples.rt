@@ -6,9 +6,8 @@ ghost use Rattle.standard_assertions.specs.Multiples.{is_multiple, multiple_text
 ghost use Rattle.keyword_authoring.specs.TextWords.{ShowsText};
 
 use crate::numbers::HeldNumber;
-use json_values::multiples::is_rounded_multiple_of;
-use schema_reports::instance::Instance;
-use schema_reports::location::OutOfMemory;
+use json_values::is_rounded_multiple_of;
+use schema_reports::{Instance, OutOfMemory};
 use std::alloc::Global;
 
 /// Returns whether an instance is a multiple of the divisor, or is no number.

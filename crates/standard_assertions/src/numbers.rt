@@ -4,7 +4,7 @@ ghost use Rattle.serde_json.specs.Find.{as_number, is_float};
 ghost use Rattle.serde_json.specs.View.{number_view, view};
 ghost use Rattle.serde_json.specs.Written.{number_text};
 
-use schema_reports::location::OutOfMemory;
+use schema_reports::OutOfMemory;
 use serde_json::{Number, Value};
 use std::alloc::{AllocError, Global};
 use std::marker::Model;

@@ -7,10 +7,9 @@ ghost use Rattle.keyword_authoring.specs.Items.{is_list, item_count};
 ghost use Rattle.standard_assertions.specs.Sizes.{allows, many_counted, one_counted, size_fits, size_name, size_of, size_text, size_words};
 ghost use Rattle.keyword_authoring.specs.TextWords.{ShowsText};
 
-use keyword_authoring::items::{is_list, item_count};
-use schema_reports::instance::Instance;
-use schema_reports::location::OutOfMemory;
-use standard_basics::counts::{members_count, push_decimal};
+use keyword_authoring::{is_list, item_count};
+use schema_reports::{Instance, OutOfMemory};
+use standard_basics::{members_count, push_decimal};
 use std::alloc::Global;
 
 /// A keyword that limits the number of items or members.

@@ -17,15 +17,13 @@ use crate::values::{
     count_made, dependents_made, enum_made, integers_of, is_draft_4, limit_made, multiple_made,
     size_made, type_made,
 };
-use json_values::held::HeldValue;
-use keyword_authoring::leaves::Telling;
-use keyword_makers::by_object::{MakesByObject, ObjectKeyword};
-use keyword_makers::by_value::Children;
-use keyword_makers::paths::value_in;
-use schema_drafts::keywords::Draft;
-use schema_reports::location::OutOfMemory;
+use json_values::HeldValue;
+use keyword_authoring::Telling;
+use keyword_makers::{Children, MakesByObject, ObjectKeyword, value_in};
+use schema_drafts::Draft;
+use schema_reports::OutOfMemory;
 use serde_json::{Map, Value};
-use standard_basics::counts::CountKind;
+use standard_basics::CountKind;
 use std::alloc::Global;
 
 /// The keyword that a member of an object makes.

@@ -4,9 +4,9 @@ ghost use Rattle.schema_reports.specs.InstanceViews.{subject_of};
 ghost use Rattle.schema_reports.specs.Owned.{value_of};
 ghost use Rattle.standard_assertions.specs.Types.{fits, fits_one, is_integer_valued};
 
-use json_values::multiples::is_integer_valued;
-use schema_reports::instance::Instance;
-use standard_basics::type_names::TypeName;
+use json_values::is_integer_valued;
+use schema_reports::Instance;
+use standard_basics::TypeName;
 use std::alloc::AllocError;
 use std::marker::Model;
 

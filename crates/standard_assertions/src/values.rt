@@ -14,14 +14,11 @@ use crate::limits::LimitKind;
 use crate::numbers::HeldNumber;
 use crate::sizes::SizeKind;
 use crate::types::{Integers, TypeList};
-use json_values::held::HeldValue;
-use json_values::multiples::natural_of;
-use json_values::numbers::is_less;
-use schema_drafts::keywords::Draft;
-use schema_reports::location::OutOfMemory;
+use json_values::{HeldValue, is_less, natural_of};
+use schema_drafts::Draft;
+use schema_reports::OutOfMemory;
 use serde_json::{Map, Number, Value};
-use standard_basics::counts::CountKind;
-use standard_basics::type_names::{type_named, types_of};
+use standard_basics::{CountKind, type_named, types_of};
 use std::alloc::Global;
 
 /// Returns whether the draft takes numbers as they are written.

@@ -3,7 +3,7 @@ ghost use Rattle.std.specs.Prelude.{◌≡◌};
 ghost use Rattle.standard_basics.specs.Shapes.{shape_of};
 
 use crate::keyword::BasicKeyword;
-use schema_traits::cloning::CloneKeyword;
+use schema_traits::CloneKeyword;
 use std::alloc::AllocError;
 
 impl Clone for BasicKeyword {

@@ -10,10 +10,9 @@ ghost use Rattle.standard_basics.specs.Telling.{TellsOwn};
 ghost use Rattle.keyword_authoring.specs.Borrowing.{Retains};
 ghost use Rattle.schema_traits.specs.Readings.{fields};
 
-use keyword_authoring::answers::{note, refuse};
-use schema_reports::instance::Instance;
-use schema_reports::location::OutOfMemory;
-use schema_traits::keyword::{Answer, Mode};
+use keyword_authoring::{note, refuse};
+use schema_reports::{Instance, OutOfMemory};
+use schema_traits::{Answer, Mode};
 use serde_json::{Map, Value};
 use std::alloc::Global;
 

@@ -9,12 +9,9 @@ ghost use Rattle.keyword_authoring.specs.TurnWords.{StepsBy, TurnsBy};
 ghost use Rattle.standard_basics.specs.RunWays.{as_shape};
 ghost use Rattle.keyword_authoring.specs.Borrowing.{Borrows};
 
-use keyword_authoring::items::item_count;
-use keyword_authoring::passing::next_number;
-use keyword_authoring::run::Progress;
-use schema_reports::instance::Instance;
-use schema_reports::location::OutOfMemory;
-use schema_traits::keyword::{Answer, Below, Mode, Reply, Step};
+use keyword_authoring::{Progress, item_count, next_number};
+use schema_reports::{Instance, OutOfMemory};
+use schema_traits::{Answer, Below, Mode, Reply, Step};
 use std::alloc::Global;
 
 /// Returns the step that evaluates child `number` at item `number`.

@@ -5,15 +5,32 @@
 #![tactic(auto)]
 
 mod cloning;
-pub mod counts;
-pub mod each;
-pub mod keyword;
-pub mod names;
-pub mod pattern;
-pub mod properties;
-pub mod property_names;
-pub mod required;
-pub mod table;
-pub mod texts;
-pub mod type_names;
-pub mod types;
+mod counts;
+mod each;
+mod keyword;
+mod names;
+mod pattern;
+mod properties;
+mod property_names;
+mod required;
+mod table;
+mod texts;
+mod type_names;
+mod types;
+
+pub use counts::{CountKind, count_fits, count_text, members_count, push_decimal, tell_count};
+pub use each::{turn_items, turn_prefix_items};
+pub use keyword::{BasicKeyword, Shape};
+pub use names::{Names, NamesRun};
+pub use pattern::turn_pattern;
+pub use properties::{asks_none, turn_properties};
+pub use property_names::turn_property_names;
+pub use required::{lacks_one, required_text, tell_required};
+pub use table::BasicTable;
+pub use table::keyword_values::{
+    count_keyword, pattern_keyword, required_keyword, texts_of, type_keyword,
+};
+pub use table::schema_values::{is_older_list, items_before};
+pub use texts::text_of;
+pub use type_names::{TypeName, type_named, type_of, types_of};
+pub use types::{fits_one, tell_type, tell_types, type_text, types_text};

@@ -5,9 +5,8 @@ ghost use Rattle.keyword_authoring.specs.Members.{names_in, subject_names};
 ghost use Rattle.schema_traits.specs.Showing.{Yields};
 ghost use Rattle.schema_traits.specs.Readings.{fields};
 
-use keyword_authoring::run::Progress;
-use schema_reports::instance::Instance;
-use schema_reports::location::OutOfMemory;
+use keyword_authoring::Progress;
+use schema_reports::{Instance, OutOfMemory};
 use serde_json::{Map, Value};
 use std::alloc::Global;
 use std::marker::Model;

@@ -9,12 +9,9 @@ ghost use Rattle.standard_basics.specs.RunWays.{as_shape, to_match};
 ghost use Rattle.keyword_authoring.specs.Borrowing.{Borrows, Retains};
 
 use crate::texts::text_of;
-use keyword_authoring::answers::{note, refuse};
-use keyword_authoring::matching::{MatchTurn, ask_match, match_on};
-use keyword_authoring::run::{Progress, Stage};
-use schema_reports::instance::Instance;
-use schema_reports::location::OutOfMemory;
-use schema_traits::keyword::{Answer, Mode, Reply, Step};
+use keyword_authoring::{MatchTurn, Progress, Stage, ask_match, match_on, note, refuse};
+use schema_reports::{Instance, OutOfMemory};
+use schema_traits::{Answer, Mode, Reply, Step};
 use std::alloc::Global;
 
 /// Returns the error's text.

@@ -11,11 +11,9 @@ ghost use Rattle.standard_basics.specs.RunWays.{at_names, holding};
 ghost use Rattle.keyword_authoring.specs.Borrowing.{Borrows};
 ghost use Rattle.schema_traits.specs.Readings.{fields};
 
-use keyword_authoring::passing::onward;
-use keyword_authoring::run::{Progress, Stage};
-use schema_reports::instance::Instance;
-use schema_reports::location::OutOfMemory;
-use schema_traits::keyword::{Answer, Below, Reply, Step};
+use keyword_authoring::{Progress, Stage, onward};
+use schema_reports::{Instance, OutOfMemory};
+use schema_traits::{Answer, Below, Reply, Step};
 use serde_json::{Map, Value};
 use std::alloc::Global;
 

@@ -7,11 +7,9 @@ ghost use Rattle.standard_basics.specs.Telling.{TellsMissing};
 ghost use Rattle.schema_traits.specs.Showing.{Shows};
 ghost use Rattle.keyword_authoring.specs.Borrowing.{Retains};
 
-use keyword_authoring::answers::{note, refuse};
-use keyword_authoring::members::{has_member, is_object};
-use schema_reports::instance::Instance;
-use schema_reports::location::OutOfMemory;
-use schema_traits::keyword::{Answer, Mode};
+use keyword_authoring::{has_member, is_object, note, refuse};
+use schema_reports::{Instance, OutOfMemory};
+use schema_traits::{Answer, Mode};
 use std::alloc::Global;
 
 /// Reports an error for each name that the object lacks, in order.

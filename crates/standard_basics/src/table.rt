@@ -17,16 +17,13 @@ use crate::table::keyword_values::{
     count_keyword, pattern_keyword, required_keyword, type_keyword,
 };
 use crate::table::schema_values::{is_older_list, items_before};
-use keyword_makers::branches::branches_of;
-use keyword_makers::lists::{each_schema, list_length};
-use keyword_makers::maker::{Ending, PathsMaker, asks_for, ends, only_child};
-use keyword_makers::members::values_of;
-use keyword_makers::paths::value_in;
-use keyword_makers::refusals::{makes_if, malformed};
-use schema_drafts::keywords::{Draft, VocabularySet};
-use schema_reports::location::OutOfMemory;
-use schema_traits::ascending::AscendingNames;
-use schema_traits::table::{KeywordOrigin, KeywordTable, MakerReply, MakerStep};
+use keyword_makers::{
+    Ending, PathsMaker, asks_for, branches_of, each_schema, ends, list_length, makes_if, malformed,
+    only_child, value_in, values_of,
+};
+use schema_drafts::{Draft, VocabularySet};
+use schema_reports::OutOfMemory;
+use schema_traits::{AscendingNames, KeywordOrigin, KeywordTable, MakerReply, MakerStep};
 use serde_json::{Map, Value};
 use std::alloc::Global;
 

@@ -4,7 +4,7 @@ ghost use Rattle.schema_reports.specs.InstanceViews.{subject_of};
 ghost use Rattle.standard_basics.specs.Counts.{subject_string};
 ghost use Rattle.schema_traits.specs.Readings.{text_read};
 
-use schema_reports::instance::Instance;
+use schema_reports::Instance;
 
 /// Returns the text if the instance is a text or a name.
 pub fn text_of<'i>(instance: Instance<'i>) -> Option<&'i str>

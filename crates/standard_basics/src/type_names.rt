@@ -4,8 +4,7 @@ ghost use Rattle.serde_json.specs.View.{items_view, view};
 ghost use Rattle.schema_reports.specs.InstanceViews.{subject_of};
 ghost use Rattle.standard_basics.specs.TypeNames.{type_name, fits, type_named, type_of, types_of};
 
-use schema_reports::instance::Instance;
-use schema_reports::location::OutOfMemory;
+use schema_reports::{Instance, OutOfMemory};
 use serde_json::Value;
 use std::alloc::Global;
 

@@ -5,7 +5,7 @@ ghost use Rattle.standard_formats.specs.Contents as spec;
 
 use base64::DecodeAllocError;
 use base64::engine::general_purpose::STANDARD;
-use schema_reports::location::OutOfMemory;
+use schema_reports::OutOfMemory;
 use serde_json::Value;
 use std::alloc::{AllocError, Global};
 

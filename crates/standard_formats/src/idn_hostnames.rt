@@ -8,7 +8,7 @@ ghost use Rattle.schema_traits.specs.Showing.{Yields};
 ghost use Rattle.standard_formats.specs.IdnHostnames as spec;
 
 use idna::{Errors, domain_to_ascii_strict};
-use schema_reports::location::OutOfMemory;
+use schema_reports::OutOfMemory;
 use std::alloc::{AllocError, Global};
 
 /// Returns whether a character is disallowed in every label, by exception.

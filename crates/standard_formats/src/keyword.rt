@@ -7,13 +7,11 @@ ghost use Rattle.schema_traits.specs.Readings.{ListsTexts};
 
 use crate::contents::{is_base64, is_json, is_json_in_base64};
 use crate::idn_hostnames::is_idn_hostname;
-use keyword_authoring::cloning::CloneTelling;
-use keyword_authoring::leaves::TellingKeyword;
-use regex_matcher::reading::is_readable;
-use schema_reports::instance::Instance;
-use schema_reports::location::OutOfMemory;
+use keyword_authoring::{CloneTelling, TellingKeyword};
+use regex_matcher::is_readable;
+use schema_reports::{Instance, OutOfMemory};
 use std::alloc::Global;
-use text_formats::formats::Format;
+use text_formats::Format;
 
 /// A keyword that tests a text.
 ///

@@ -9,7 +9,12 @@
 //! or JSON in base64. Each keyword holds of an instance that is no text.
 #![tactic(auto)]
 
-pub mod contents;
-pub mod idn_hostnames;
-pub mod keyword;
-pub mod table;
+mod contents;
+mod idn_hostnames;
+mod keyword;
+mod table;
+
+pub use contents::{is_base64, is_json, is_json_in_base64};
+pub use idn_hostnames::is_idn_hostname;
+pub use keyword::FormatKeyword;
+pub use table::{FormatTable, FormatsIf};

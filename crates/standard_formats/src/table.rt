@@ -11,17 +11,14 @@ ghost use Rattle.standard_formats.specs.Shapes.{shape_of};
 ghost use Rattle.schema_traits.specs.Readings.{fields, text_read};
 
 use crate::keyword::FormatKeyword;
-use keyword_authoring::leaves::Telling;
-use keyword_makers::by_object::{MakesByObject, ObjectKeyword, TableByObject};
-use keyword_makers::by_value::Children;
-use keyword_makers::maker::PathsMaker;
-use keyword_makers::paths::value_in;
-use schema_drafts::keywords::{Draft, VocabularySet};
-use schema_reports::location::OutOfMemory;
-use schema_traits::table::{KeywordOrigin, KeywordTable, MakerReply, MakerStep};
+use keyword_authoring::Telling;
+use keyword_makers::{Children, MakesByObject, ObjectKeyword, PathsMaker, TableByObject, value_in};
+use schema_drafts::{Draft, VocabularySet};
+use schema_reports::OutOfMemory;
+use schema_traits::{KeywordOrigin, KeywordTable, MakerReply, MakerStep};
 use serde_json::{Map, Value};
 use std::alloc::Global;
-use text_formats::formats::Format;
+use text_formats::Format;
 
 /// The keyword that a member of an object makes.
 type Made = ObjectKeyword<Telling<FormatKeyword>>;

@@ -2,13 +2,12 @@
 ghost use Rattle.std.specs.Prelude.{◌≡◌};
 
 use crate::treatment::{Treatment, refusal_text, treatment_of};
-use keyword_authoring::leaves::Telling;
-use keyword_makers::by_object::{MakesByObject, ObjectKeyword};
-use schema_drafts::keywords::Draft;
-use schema_reports::location::OutOfMemory;
+use keyword_authoring::Telling;
+use keyword_makers::{MakesByObject, ObjectKeyword};
+use schema_drafts::Draft;
+use schema_reports::OutOfMemory;
 use serde_json::{Map, Value};
-use standard_assertions::assertion::Assertion;
-use standard_assertions::table::AssertionTable;
+use standard_assertions::{Assertion, AssertionTable};
 use std::alloc::Global;
 
 /// The assertions of `standard_assertions`, and a refusal of each keyword that is not supported. Nothing is made of any other.

@@ -4,7 +4,14 @@
 //! each draft what becomes of it). A schema with a pattern that cannot be read is refused, or left to the matcher (`patterns`).
 #![tactic(auto)]
 
-pub mod assertions;
-pub mod patterns;
-pub mod table;
-pub mod treatment;
+mod assertions;
+mod patterns;
+mod table;
+mod treatment;
+
+pub use assertions::AssertionsOrRefusals;
+pub use patterns::{UnreadablePatterns, pattern_refusal};
+pub use table::{
+    ApplicatorRoute, Applied, FormatRoute, GateRoute, StandardKeyword, StandardRoute, StandardTable,
+};
+pub use treatment::{Treatment, refusal_text, treatment_of};

@@ -8,11 +8,10 @@ ghost use Rattle.schema_traits.specs.Showing.{Shows};
 ghost use Rattle.standard_keywords.specs.Patterns.{pattern_refusal, refusal_among, refusal_in, unreadable_text};
 ghost use Rattle.schema_traits.specs.Readings.{fields};
 
-use keyword_makers::paths::value_in;
-use regex_matcher::reading::is_readable;
-use schema_reports::instance::Instance;
-use schema_reports::location::OutOfMemory;
-use schema_traits::table::KeywordOrigin;
+use keyword_makers::value_in;
+use regex_matcher::is_readable;
+use schema_reports::{Instance, OutOfMemory};
+use schema_traits::KeywordOrigin;
 use serde_json::{Map, Value};
 use std::alloc::Global;
 

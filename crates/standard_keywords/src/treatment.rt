@@ -10,11 +10,11 @@ ghost use Rattle.standard_keywords.specs.Treatments.{of_numbers, of_places};
 ghost use Rattle.standard_keywords.specs.Treatments.{is_silent, of_texts_and_members, refusal_text, treated};
 ghost use Rattle.schema_traits.specs.Readings.{fields};
 
-use keyword_makers::paths::value_in;
-use schema_drafts::keywords::Draft;
-use schema_reports::location::OutOfMemory;
+use keyword_makers::value_in;
+use schema_drafts::Draft;
+use schema_reports::OutOfMemory;
 use serde_json::{Map, Value};
-use standard_basics::table::schema_values::is_older_list;
+use standard_basics::is_older_list;
 use std::alloc::Global;
 
 /// What becomes of a keyword of the standard.

@@ -8,8 +8,8 @@ ghost use Rattle.standard_meta.specs.MetaDocuments.{draft_uris, given_of, place_
 
 use crate::error::MetaError;
 use meta_schemas::{MetaSchema, meta_schema, vocabulary_meta_schemas};
-use regex_matcher::patterns::Patterns;
-use schema_engine::keywords::Draft;
+use regex_matcher::Patterns;
+use schema_engine::Draft;
 use serde_json::Value;
 use std::alloc::Global;
 use std::marker::Model;

@@ -1,8 +1,8 @@
 //! The error of making the meta validators.
 ghost use Rattle.std.specs.Prelude.{◌≡◌};
 
-use regex_matcher::error::PatternError;
-use schema_engine::compiler::BuildError;
+use regex_matcher::PatternError;
+use schema_engine::BuildError;
 use std::alloc::{AllocError, AllocFailed};
 use std::error::Error;
 use std::fmt;

@@ -3,8 +3,13 @@
 //! `StandardMeta` is the last of the parts that a build requires.
 #![tactic(auto)]
 
-pub mod documents;
-pub mod error;
-pub mod meta;
+mod documents;
+mod error;
+mod meta;
 mod no_meta;
-pub mod wholeness;
+mod wholeness;
+
+pub use documents::{MetaDocument, MetaDocuments};
+pub use error::MetaError;
+pub use meta::StandardMeta;
+pub use wholeness::StandardFractions;

@@ -11,19 +11,15 @@ use crate::documents::{MetaDocument, MetaDocuments};
 use crate::error::MetaError;
 use crate::no_meta::NoMeta;
 use crate::wholeness::StandardFractions;
-use meta_checker::checker::Checker;
-use meta_checker::drafts::{CheckerMaker, DraftCheckers};
-use regex_matcher::matcher::RegexMatcher;
-use regex_matcher::unreadable::Unreadable;
-use schema_engine::compiler::BuildError;
-use schema_engine::context::{KeywordTable, MetaValidators, Resolver, Validate};
-use schema_engine::keywords::{Draft, VocabularySet};
-use schema_engine::options::ValidationOptions;
-use schema_engine::validator::Validator;
-use schema_reports::location::OutOfMemory;
-use schema_reports::reports::ValidationError;
+use meta_checker::{Checker, CheckerMaker, DraftCheckers};
+use regex_matcher::{RegexMatcher, Unreadable};
+use schema_engine::{
+    BuildError, Draft, KeywordTable, MetaValidators, Resolver, Validate, ValidationOptions,
+    Validator, VocabularySet,
+};
+use schema_reports::{OutOfMemory, ValidationError};
 use serde_json::Value;
-use standard_keywords::table::{StandardKeyword, StandardTable};
+use standard_keywords::{StandardKeyword, StandardTable};
 use standard_resolver::{Document, DocumentResolver, Rule};
 use std::alloc::Global;
 

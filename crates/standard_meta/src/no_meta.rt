@@ -1,8 +1,7 @@
 //! Meta validators that check nothing.
-use schema_drafts::keywords::Draft;
-use schema_reports::location::OutOfMemory;
-use schema_reports::reports::ValidationError;
-use schema_traits::meta::MetaValidators;
+use schema_drafts::Draft;
+use schema_reports::{OutOfMemory, ValidationError};
+use schema_traits::MetaValidators;
 use serde_json::Value;
 use std::alloc::Global;
 

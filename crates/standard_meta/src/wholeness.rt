@@ -4,13 +4,12 @@ ghost use Rattle.standard_basics.specs.BasicShape.{is_whole};
 ghost use Rattle.standard_basics.specs.Shapes.{shape_of};
 ghost use Rattle.standard_assertions.specs.Assertions.{shows_no_fraction};
 
-use keyword_joins::both::Both;
-use meta_checker::nodes::TellsFractions;
-use meta_checker::values::has_fraction;
-use schema_traits::keyword::Validate;
-use standard_assertions::assertion::Assertion;
-use standard_basics::keyword::BasicKeyword;
-use standard_keywords::table::{Applied, StandardKeyword};
+use keyword_joins::Both;
+use meta_checker::{TellsFractions, has_fraction};
+use schema_traits::Validate;
+use standard_assertions::Assertion;
+use standard_basics::BasicKeyword;
+use standard_keywords::{Applied, StandardKeyword};
 
 /// Decides whether a keyword of the standard shows a fraction of its schema.
 #[derive(Drop)]

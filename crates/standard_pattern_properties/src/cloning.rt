@@ -2,7 +2,7 @@
 ghost use Rattle.std.specs.Prelude.{◌≡◌};
 
 use crate::keyword::{GatedKeyword, Neighbours};
-use schema_traits::cloning::CloneKeyword;
+use schema_traits::CloneKeyword;
 use std::alloc::AllocError;
 
 impl Clone for Neighbours {

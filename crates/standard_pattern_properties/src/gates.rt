@@ -10,9 +10,9 @@ ghost use Rattle.keyword_authoring.specs.AnswerWords.{Becomes};
 ghost use Rattle.keyword_authoring.specs.Borrowing.{Borrows};
 
 use crate::names::{NamesLeft, Texts};
-use keyword_authoring::answers::take;
-use schema_reports::location::OutOfMemory;
-use schema_traits::keyword::{Answer, Mode, Reply};
+use keyword_authoring::take;
+use schema_reports::OutOfMemory;
+use schema_traits::{Answer, Mode, Reply};
 use std::alloc::Global;
 
 /// The condition of a gate: one of its patterns matches a name, or none does.

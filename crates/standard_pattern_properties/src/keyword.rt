@@ -20,11 +20,9 @@ use crate::listed::Listed;
 use crate::members::{all_names, has_none, lists_each, unlisted_names};
 use crate::names::{NamesLeft, Texts};
 use crate::telling::unexpected_text;
-use keyword_authoring::answers::{goes_on, note, refuse, says_yes};
-use keyword_authoring::matching::ask_match;
-use schema_reports::instance::Instance;
-use schema_reports::location::OutOfMemory;
-use schema_traits::keyword::{Answer, Below, Mode, Reply, Step, Validate};
+use keyword_authoring::{ask_match, goes_on, note, refuse, says_yes};
+use schema_reports::{Instance, OutOfMemory};
+use schema_traits::{Answer, Below, Mode, Reply, Step, Validate};
 use serde_json::{Map, Value};
 use std::alloc::Global;
 

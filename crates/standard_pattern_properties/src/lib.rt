@@ -11,12 +11,24 @@
 //! reports the members at which its gate is open.
 #![tactic(auto)]
 
-pub mod cloning;
-pub mod gates;
-pub mod keyword;
-pub mod listed;
-pub mod meanings;
-pub mod members;
-pub mod names;
-pub mod table;
-pub mod telling;
+mod cloning;
+mod gates;
+mod keyword;
+mod listed;
+mod meanings;
+mod members;
+mod names;
+mod table;
+mod telling;
+
+pub use gates::{Condition, Gate, GateRun, GateStage, Move, opens, take_asked};
+pub use keyword::{GatedKeyword, Neighbours};
+pub use listed::Listed;
+pub use meanings::{
+    additional_properties_means, no_additional_properties_means, pattern_properties_means,
+    unexpected_names,
+};
+pub use members::{all_names, has_none, lists_each, unlisted_names};
+pub use names::{NamesLeft, Texts};
+pub use table::GatedTable;
+pub use telling::unexpected_text;

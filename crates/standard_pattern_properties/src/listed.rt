@@ -6,7 +6,7 @@ ghost use Rattle.keyword_makers.specs.Members.{names_of};
 ghost use Rattle.schema_traits.specs.Showing.{Yields};
 ghost use Rattle.schema_traits.specs.Readings.{fields};
 
-use schema_reports::location::OutOfMemory;
+use schema_reports::OutOfMemory;
 use serde_json::{Map, Value};
 use std::alloc::{AllocError, Global};
 use std::collections::BTreeSet;

@@ -9,9 +9,8 @@ ghost use Rattle.schema_traits.specs.Readings.{fields};
 
 use crate::listed::Listed;
 use crate::names::NamesLeft;
-use keyword_authoring::members::members_of;
-use schema_reports::instance::Instance;
-use schema_reports::location::OutOfMemory;
+use keyword_authoring::members_of;
+use schema_reports::{Instance, OutOfMemory};
 use serde_json::{Map, Value};
 use std::alloc::Global;
 

@@ -6,8 +6,8 @@ ghost use Rattle.standard_pattern_properties.specs.Firsts.{first_of, later_of};
 ghost use Rattle.schema_traits.specs.Showing.{Yields};
 ghost use Rattle.schema_traits.specs.Readings.{fields, text_read};
 
-use keyword_makers::members::names_of;
-use schema_reports::location::OutOfMemory;
+use keyword_makers::names_of;
+use schema_reports::OutOfMemory;
 use serde_json::{Map, Value};
 use std::alloc::{AllocError, Global};
 use std::collections::VecDeque;

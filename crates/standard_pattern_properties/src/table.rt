@@ -11,13 +11,12 @@ ghost use Rattle.schema_traits.specs.Readings.{fields, value_read};
 use crate::keyword::{GatedKeyword, Neighbours};
 use crate::listed::Listed;
 use crate::names::Texts;
-use keyword_makers::maker::{Ending, PathsMaker, asks_for, ends, only_child};
-use keyword_makers::members::values_below;
-use keyword_makers::paths::value_in;
-use keyword_makers::refusals::malformed;
-use schema_drafts::keywords::{Draft, VocabularySet};
-use schema_reports::location::OutOfMemory;
-use schema_traits::table::{KeywordOrigin, KeywordTable, MakerReply, MakerStep};
+use keyword_makers::{
+    Ending, PathsMaker, asks_for, ends, malformed, only_child, value_in, values_below,
+};
+use schema_drafts::{Draft, VocabularySet};
+use schema_reports::OutOfMemory;
+use schema_traits::{KeywordOrigin, KeywordTable, MakerReply, MakerStep};
 use serde_json::{Map, Value};
 use std::alloc::Global;
 

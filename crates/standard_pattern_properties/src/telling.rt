@@ -4,7 +4,7 @@ ghost use Rattle.standard_pattern_properties.specs.GatedKeywords.{in_quotes, une
 ghost use Rattle.keyword_authoring.specs.TextWords.{Adds};
 ghost use Rattle.schema_traits.specs.Showing.{Shows};
 
-use schema_reports::location::OutOfMemory;
+use schema_reports::OutOfMemory;
 use std::alloc::Global;
 
 /// Appends the names, each in quotes, with commas between them.

@@ -16,7 +16,7 @@ use Rattle.standard_subschemas.specs.SubschemaRules.{data_of, detected, dynamic_
 use Rattle.standard_subschemas.specs.FoundSchemas.{Found, found_at}
 use Rattle.standard_subschemas.specs.FoundViews.{found_of, path_of}
 use Rattle.standard_subschemas.specs.PlainSchemas.{IsPlain}
-use Rattle.standard_subschemas.specs.declared.subschemas.FoundSchema.{FoundSchema}
+use Rattle.standard_subschemas.specs.declared.below.FoundSchema.{FoundSchema}
 use Rattle.standard_resolver.specs.DocumentResources.{Visited, goes_into, identified, name_if, names_at, resource_if, visited_at, visited_below}
 use Rattle.standard_resolver.specs.DocumentResources.{visited_if}
 use Rattle.standard_resolver.specs.ResourceSpeaking.{kept_if, speaking, speaks}

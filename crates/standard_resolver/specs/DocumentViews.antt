@@ -6,7 +6,7 @@ use Rattle.serde_json.specs.declared.value.Value.{Value}
 use Rattle.theory_definitions.specs.Instance.{Place, Text}
 use Rattle.schema_drafts.specs.KeywordViews.{draft_of}
 use Rattle.standard_subschemas.specs.FoundViews.{path_of}
-use Rattle.standard_subschemas.specs.declared.subschemas.FoundSchema.{FoundSchema}
+use Rattle.standard_subschemas.specs.declared.below.FoundSchema.{FoundSchema}
 use Rattle.standard_resolver.specs.declared.resolver.DocumentState.{DocumentState}
 use Rattle.standard_resolver.specs.declared.documents as code
 use Rattle.standard_resolver.specs.declared.walk as walk

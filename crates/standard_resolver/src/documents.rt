@@ -6,7 +6,7 @@ ghost use Rattle.standard_resolver.specs.DocumentViews.{held};
 ghost use Rattle.schema_traits.specs.Readings.{text_read, value_read};
 
 use crate::places::value_after;
-use schema_traits::schema_place::SchemaPlace;
+use schema_traits::SchemaPlace;
 use serde_json::Value;
 
 /// A document and the URI that it is supplied under.

@@ -22,4 +22,4 @@ pub use crate::references::starts_at_the_innermost_resource;
 pub use crate::resolver::{DocumentResolver, DocumentState, StatePoint};
 pub use crate::rows::{standard_rows, worked_rows};
 pub use crate::vocabularies::DraftVocabularies;
-pub use standard_subschemas::rules::Rule;
+pub use standard_subschemas::Rule;

@@ -10,12 +10,10 @@ ghost use Rattle.schema_traits.specs.Showing.{Yields};
 ghost use Rattle.standard_resolver.specs.DocumentShowing.{Appends};
 
 use crate::walk::{Visited, walked};
-use schema_drafts::keywords::Draft;
-use schema_reports::location::OutOfMemory;
-use schema_traits::schema_place::SchemaPath;
-use standard_subschemas::identifiers::{dynamic_name, plain_name};
-use standard_subschemas::numbers::add_number;
-use standard_subschemas::rules::Rule;
+use schema_drafts::Draft;
+use schema_reports::OutOfMemory;
+use schema_traits::SchemaPath;
+use standard_subschemas::{Rule, add_number, dynamic_name, plain_name};
 use std::alloc::Global;
 use std::collections::HashMap;
 use std::marker::Model;

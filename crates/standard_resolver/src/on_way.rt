@@ -11,12 +11,10 @@ ghost use Rattle.standard_resolver.specs.OnWay.{leads_to_item, leads_to_member, 
 ghost use Rattle.schema_traits.specs.Readings.{value_read};
 ghost use Rattle.standard_resolver.specs.OnWay.{pair_among, step_among, below_each};
 
-use schema_drafts::keywords::Draft;
-use schema_traits::schema_place::{SchemaPath, SchemaStep};
+use schema_drafts::Draft;
+use schema_traits::{SchemaPath, SchemaStep};
 use serde_json::Value;
-use standard_subschemas::rules::Rule;
-use standard_subschemas::schema_names::{names_of_lists, names_of_objects, names_of_values};
-use standard_subschemas::subschemas::is_schema;
+use standard_subschemas::{Rule, is_schema, names_of_lists, names_of_objects, names_of_values};
 
 /// Returns whether a step leads to the member of this name.
 fn is_named(step: &SchemaStep, keyword: &str) -> bool

@@ -12,9 +12,9 @@ ghost use Rattle.standard_resolver.specs.ResolverDocuments.{StandsInside};
 ghost use Rattle.schema_traits.specs.Readings.{fields, value_read};
 
 use crate::documents::Documents;
-use schema_traits::schema_place::{SchemaPath, SchemaPlace, SchemaStep};
+use schema_traits::{SchemaPath, SchemaPlace, SchemaStep};
 use serde_json::{Map, Value};
-use standard_subschemas::steps::value_below;
+use standard_subschemas::value_below;
 use std::alloc::Global;
 
 /// Returns the place of the first document's root.

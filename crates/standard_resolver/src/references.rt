@@ -22,17 +22,13 @@ use crate::on_way::is_subschema;
 use crate::resolver::DocumentState;
 use crate::resources::{Resource, Resources};
 use crate::states::{enter, entered_below};
-use schema_reports::location::OutOfMemory;
-use schema_traits::resolver::{LookupError, Target};
-use schema_traits::schema_place::{SchemaPath, SchemaPlace};
+use schema_reports::OutOfMemory;
+use schema_traits::{LookupError, SchemaPath, SchemaPlace, Target};
 use serde_json::Value;
-use standard_subschemas::drafts::detected;
-use standard_subschemas::identifiers::{fragment_of, without_fragment};
-use standard_subschemas::pointers::{decoded, path_of_pointer};
-use standard_subschemas::refusals::refusal;
-use standard_subschemas::rules::Rule;
-use standard_subschemas::steps::value_below;
-use standard_subschemas::uris::resolve_uri;
+use standard_subschemas::{
+    Rule, decoded, detected, fragment_of, path_of_pointer, refusal, resolve_uri, value_below,
+    without_fragment,
+};
 use std::alloc::Global;
 
 /// A reference to look up, and whether it is dynamic.

@@ -11,19 +11,14 @@ use crate::references::{looked_up, looked_up_recursive};
 use crate::resources::{Resources, resources_of};
 use crate::states::entered;
 use crate::vocabularies::DraftVocabularies;
-use schema_drafts::keywords::{Draft, VocabularySet};
-use schema_reports::location::OutOfMemory;
-use schema_traits::resolver::{LookupError, PlacedSchema, Resolver, Target};
-use schema_traits::schema_place::{SchemaPath, SchemaPlace};
+use schema_drafts::{Draft, VocabularySet};
+use schema_reports::OutOfMemory;
+use schema_traits::{LookupError, PlacedSchema, Resolver, SchemaPath, SchemaPlace, Target};
 use serde_json::{Map, Value};
-use standard_subschemas::drafts::detected;
-use standard_subschemas::identifiers::{identifier, without_fragment};
-use standard_subschemas::known::is_known;
-use standard_subschemas::named_drafts::names_draft_inside;
-use standard_subschemas::refusals::refusal;
-use standard_subschemas::rules::Rule;
-use standard_subschemas::subschemas::{subschemas, subschemas_placed};
-use standard_subschemas::uris::resolve_uri;
+use standard_subschemas::{
+    Rule, detected, identifier, is_known, names_draft_inside, refusal, resolve_uri, subschemas,
+    subschemas_placed, without_fragment,
+};
 use std::alloc::Global;
 use std::marker::Model;
 use std::rc::{Rc, RcStr};

@@ -4,8 +4,8 @@ ghost use Rattle.schema_drafts.specs.KeywordViews.{draft_of};
 ghost use Rattle.standard_resolver.specs.ResolverDocuments.{vocabularies_in, HasCustom, HasDrafts};
 ghost use Rattle.schema_traits.specs.Showing.{Yields};
 
-use schema_drafts::keywords::{Draft, Vocabulary, VocabularySet};
-use schema_reports::location::OutOfMemory;
+use schema_drafts::{Draft, Vocabulary, VocabularySet};
+use schema_reports::OutOfMemory;
 
 /// The vocabularies of the drafts before 2019-09, of 2019-09, and of later drafts.
 #[derive(Drop)]

@@ -10,16 +10,14 @@ ghost use Rattle.standard_resolver.specs.DocumentViews.{visited_of, path_over};
 ghost use Rattle.schema_traits.specs.Showing.{Yields, Shows};
 ghost use Rattle.standard_resolver.specs.DocumentShowing.{Appends};
 
-use schema_drafts::keywords::Draft;
-use schema_reports::location::OutOfMemory;
-use schema_traits::schema_place::SchemaPath;
+use schema_drafts::Draft;
+use schema_reports::OutOfMemory;
+use schema_traits::SchemaPath;
 use serde_json::Value;
-use standard_subschemas::drafts::detected;
-use standard_subschemas::identifiers::{dynamic_name, identifier, plain_name};
-use standard_subschemas::plain::is_plain;
-use standard_subschemas::rules::Rule;
-use standard_subschemas::subschemas::{FoundSchema, subschemas_found};
-use standard_subschemas::uris::{or_base, uri_of};
+use standard_subschemas::{
+    FoundSchema, Rule, detected, dynamic_name, identifier, is_plain, or_base, plain_name,
+    subschemas_found, uri_of,
+};
 use std::alloc::Global;
 
 /// A schema that the walk visits, with its path, the base around it, and its draft.

@@ -22,7 +22,7 @@ use Rattle.standard_subschemas.specs.SubschemaRules.{below_list, below_object, b
 use Rattle.standard_subschemas.specs.SubschemaRules.{place_if}
 use Rattle.standard_subschemas.specs.FoundSchemas.{Found, found_at, found_if, schema_if}
 use Rattle.standard_subschemas.specs.FoundViews.{found_of, path_of}
-use Rattle.standard_subschemas.specs.declared.subschemas.FoundSchema.{FoundSchema}
+use Rattle.standard_subschemas.specs.declared.below.FoundSchema.{FoundSchema}
 
 -- ---- an item of a list, and a member of an object whose names ascend
 

@@ -6,11 +6,11 @@ use Rattle.serde_json.specs.View.{view}
 use Rattle.theory_definitions.specs.Instance.{Place, Text, to_item, to_member}
 use Rattle.theory_definitions.specs.Drafts.{SchemaPlace, at_path}
 use Rattle.schema_traits.specs.ResolverViews.{Placed}
-use Rattle.standard_subschemas.specs.declared.subschemas.FoundSchema.{FoundSchema}
-use Rattle.standard_subschemas.specs.declared.subschemas.Inside.{Inside}
-use Rattle.standard_subschemas.specs.declared.subschemas.Inside.TheVariants.{Item, Member, Nothing}
-use Rattle.standard_subschemas.specs.declared.subschemas.Lying.{Lying}
-use Rattle.standard_subschemas.specs.declared.subschemas.Lying.TheVariants.{AsValue, InList, InObject}
+use Rattle.standard_subschemas.specs.declared.below.FoundSchema.{FoundSchema}
+use Rattle.standard_subschemas.specs.declared.below.Inside.{Inside}
+use Rattle.standard_subschemas.specs.declared.below.Inside.TheVariants.{Item, Member, Nothing}
+use Rattle.standard_subschemas.specs.declared.below.Lying.{Lying}
+use Rattle.standard_subschemas.specs.declared.below.Lying.TheVariants.{AsValue, InList, InObject}
 use Rattle.standard_subschemas.specs.SubschemaRules.{below_list, below_object, below_value}
 use Rattle.standard_subschemas.specs.FoundSchemas.{Found, found_at}
 

@@ -5,7 +5,7 @@ ghost use Rattle.schema_drafts.specs.KeywordViews.{draft_of};
 ghost use Rattle.standard_subschemas.specs.SubschemaRules.{detected, draft_of_uri, text_member};
 ghost use Rattle.schema_traits.specs.Readings.{text_read};
 
-use schema_drafts::keywords::Draft;
+use schema_drafts::Draft;
 use serde_json::Value;
 
 /// Returns the string under a name, if the value has one.

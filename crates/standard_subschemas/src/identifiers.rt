@@ -8,7 +8,7 @@ ghost use Rattle.schema_traits.specs.Readings.{text_read};
 
 use crate::drafts::text_member;
 use crate::rules::Rule;
-use schema_drafts::keywords::Draft;
+use schema_drafts::Draft;
 use serde_json::Value;
 
 fn identifier_name(draft: Draft) -> &'static str

@@ -7,7 +7,7 @@ ghost use Rattle.standard_subschemas.specs.StandardNames.{is_known_in, is_known_
 ghost use Rattle.standard_subschemas.specs.StandardNames.{known_in_all, new_in_2019_09, new_in_2020_12, new_in_6, new_in_7};
 
 use crate::rules::Rule;
-use schema_drafts::keywords::Draft;
+use schema_drafts::Draft;
 
 fn is_among(name: &str, names: &[&str]) -> bool
     ensures among { result ≡ list_any (λ k. bytes_eq name.now k.now) names.now }

@@ -4,7 +4,7 @@ ghost use Rattle.std.specs.HashMap.{get_by_text};
 ghost use Rattle.schema_traits.specs.Readings.{text_read};
 ghost use Rattle.standard_subschemas.specs.DocumentKeys.{NumbersNext};
 
-use schema_reports::location::OutOfMemory;
+use schema_reports::OutOfMemory;
 use std::alloc::Global;
 use std::collections::HashMap;
 

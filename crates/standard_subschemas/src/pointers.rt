@@ -13,8 +13,8 @@ ghost use Rattle.schema_traits.specs.Showing.{Yields, Shows};
 
 use crate::steps::value_below;
 use percent_encoding::percent_decode;
-use schema_reports::location::OutOfMemory;
-use schema_traits::schema_place::{SchemaPath, SchemaStep};
+use schema_reports::OutOfMemory;
+use schema_traits::{SchemaPath, SchemaStep};
 use serde_json::Value;
 use std::alloc::Global;
 use std::rc::RcStr;

@@ -3,8 +3,8 @@ ghost use Rattle.std.specs.Prelude.{◌++◌, string_bytes};
 ghost use Rattle.schema_traits.specs.Showing.{Shows};
 ghost use Rattle.standard_subschemas.specs.Refusals.{RefusesWith};
 
-use schema_reports::location::OutOfMemory;
-use schema_traits::resolver::LookupError;
+use schema_reports::OutOfMemory;
+use schema_traits::LookupError;
 use std::alloc::Global;
 
 fn joined(alloc: Global, first: &str, second: &str) -> Result<String, OutOfMemory>

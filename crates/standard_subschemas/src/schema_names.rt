@@ -5,7 +5,7 @@ ghost use Rattle.standard_subschemas.specs.SubschemaRules.{names_of_lists, names
 ghost use Rattle.standard_subschemas.specs.StandardNames as standard;
 
 use crate::rules::Rule;
-use schema_drafts::keywords::Draft;
+use schema_drafts::Draft;
 
 /// Returns the keywords whose subschemas are the members of an object.
 pub fn names_of_objects(rule: Rule, draft: Draft) -> &'static [&'static str]

@@ -5,7 +5,7 @@ ghost use Rattle.theory_definitions.specs.Instance.{after_step, a_value};
 ghost use Rattle.schema_traits.specs.SchemaViews.{schema_step_of};
 ghost use Rattle.standard_subschemas.specs.Subjects.{subject_read};
 
-use schema_traits::schema_place::SchemaStep;
+use schema_traits::SchemaStep;
 use serde_json::Value;
 
 /// Returns the value one step below.

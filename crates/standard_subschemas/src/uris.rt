@@ -9,12 +9,12 @@ ghost use Rattle.schema_traits.specs.Showing.{Shows, Agrees};
 use crate::identifiers::{identifier, without_fragment};
 use crate::refusals::refusal;
 use crate::rules::Rule;
-use schema_drafts::keywords::Draft;
-use schema_reports::location::OutOfMemory;
-use schema_traits::resolver::LookupError;
+use schema_drafts::Draft;
+use schema_reports::OutOfMemory;
+use schema_traits::LookupError;
 use serde_json::Value;
 use std::alloc::Global;
-use uri_references::references::resolve;
+use uri_references::resolve;
 
 /// Returns whether the URI has a scheme: a `:` comes before any `/`, `?` or `#`.
 fn is_absolute(uri: &str) -> bool

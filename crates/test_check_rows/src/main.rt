@@ -7,7 +7,7 @@
 
 use anyhow::Context;
 use serde_json::Value;
-use standard_keywords::table::StandardTable;
+use standard_keywords::StandardTable;
 use std::alloc::{AllocError, Global};
 use std::collections::BTreeSet;
 use std::env::Env;
@@ -15,8 +15,7 @@ use std::process::ExitCode;
 use std::rt::Files;
 use std::{env, fs, io};
 use test_row_answers::answer;
-use test_rows::asking::Answering;
-use test_rows::judging::{Tally, Wrong, count_wrong, summary};
+use test_rows::{Answering, Tally, Wrong, count_wrong, summary};
 
 /// The engine, with the tables of cases.
 struct Engine {}

@@ -1,25 +1,18 @@
 //! Builds validators and requests their answers.
 //!
 //! Most of the calls that the tests make of the engine are here.
-use bench_parts::matcher::BenchMatcher;
-use bench_parts::meta::BenchMeta;
-use bench_program::narrow::narrow_resolver;
-use schema_drafts::keywords::{Draft, VocabularySet};
-use schema_engine::options::ValidationOptions;
-use schema_engine::validator::Validator;
-use schema_keys::error::BuildError;
-use schema_reports::location::OutOfMemory;
-use schema_reports::reports::ErrorIterator;
-use schema_traits::keyword::Validate;
-use schema_traits::matcher::Matcher;
-use schema_traits::resolver::Resolver;
-use schema_traits::table::KeywordTable;
+use bench_parts::{BenchMatcher, BenchMeta};
+use bench_program::narrow_resolver;
+use schema_drafts::{Draft, VocabularySet};
+use schema_engine::{ValidationOptions, Validator};
+use schema_keys::BuildError;
+use schema_reports::{ErrorIterator, OutOfMemory};
+use schema_traits::{KeywordTable, Matcher, Resolver, Validate};
 use serde_json::Value;
-use standard_basics::keyword::BasicKeyword;
-use standard_basics::table::BasicTable;
+use standard_basics::{BasicKeyword, BasicTable};
 use standard_resolver::DocumentResolver;
 use std::alloc::{AllocError, Global};
-use test_rows::tables::{column, list_at, number_at, push_all, texts_of};
+use test_rows::{column, list_at, number_at, push_all, texts_of};
 
 /// The resolver of a row's schema, and the matcher for the row's patterns.
 ///

@@ -3,12 +3,11 @@
 //! The rows of `test_check_rows` have two hundred, since the program that reads them is also built
 //! by Rattle's own compiler, and then has no room for more on a usual stack.
 use crate::asking::listed;
-use schema_reports::location::OutOfMemory;
+use schema_reports::OutOfMemory;
 use serde_json::Value;
 use std::alloc::Global;
-use test_parts::reference_chain::row_of;
-use test_rows::showing::units_counted;
-use test_rows::tables::{number_at, text_at};
+use test_parts::row_of;
+use test_rows::{number_at, text_at, units_counted};
 
 /// Returns the list of a chain of this many references.
 fn list_of_chain(alloc: Global, references: u16) -> Result<Value, serde_json::Error> {

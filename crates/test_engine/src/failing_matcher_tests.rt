@@ -2,26 +2,20 @@
 //!
 //! The matcher of the rows of `test_check_rows` does neither.
 use crate::asking::{built, push_answers, push_refusal};
-use bench_parts::meta::BenchMeta;
-use bench_program::narrow::narrow_resolver;
-use schema_drafts::keywords::{Draft, VocabularySet};
-use schema_engine::validate;
-use schema_engine::validator::Validator;
-use schema_keys::error::BuildError;
-use schema_reports::location::OutOfMemory;
-use schema_reports::reports::ValidationError;
-use schema_traits::keyword::Validate;
-use schema_traits::matcher::Matcher;
-use schema_traits::resolver::Resolver;
-use schema_traits::table::KeywordTable;
+use bench_parts::BenchMeta;
+use bench_program::narrow_resolver;
+use schema_drafts::{Draft, VocabularySet};
+use schema_engine::{Validator, validate};
+use schema_keys::BuildError;
+use schema_reports::{OutOfMemory, ValidationError};
+use schema_traits::{KeywordTable, Matcher, Resolver, Validate};
 use serde_json::Value;
-use standard_basics::keyword::BasicKeyword;
-use standard_basics::table::BasicTable;
+use standard_basics::{BasicKeyword, BasicTable};
 use standard_resolver::DocumentResolver;
 use std::alloc::Global;
 use std::cell::Cell;
-use test_parts::failing_matcher::FailingMatcher;
-use test_rows::tables::{column, number_at};
+use test_parts::FailingMatcher;
+use test_rows::{column, number_at};
 
 /// Returns the first error of a row's instance.
 ///

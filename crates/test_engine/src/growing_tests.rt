@@ -3,13 +3,12 @@
 //! With it, a schema that refers to itself never reaches a key twice. The rows of `test_check_rows`
 //! have no such resolver.
 use crate::asking::{Parts, parts_of, tell_with};
-use bench_parts::matcher::BenchMatcher;
-use schema_reports::location::OutOfMemory;
+use bench_parts::BenchMatcher;
+use schema_reports::OutOfMemory;
 use serde_json::Value;
-use standard_basics::keyword::BasicKeyword;
-use standard_basics::table::BasicTable;
+use standard_basics::{BasicKeyword, BasicTable};
 use std::alloc::Global;
-use test_parts::growing_resolver::GrowingResolver;
+use test_parts::GrowingResolver;
 
 /// Adds the answers with a resolver whose states grow.
 pub(crate) fn tell_growing(

@@ -3,17 +3,16 @@
 //! The test has a keyword type of its own, which requests more matches for errors than for the
 //! verdict. The rows of `test_check_rows` have no such keyword.
 use crate::asking::push_answers_again;
-use bench_parts::matcher::BenchMatcher;
-use schema_drafts::keywords::Draft;
-use schema_engine::validator::Validator;
-use schema_reports::location::OutOfMemory;
-use schema_traits::keyword::Validate;
-use schema_traits::numbers::SchemaNode;
+use bench_parts::BenchMatcher;
+use schema_drafts::Draft;
+use schema_engine::Validator;
+use schema_reports::OutOfMemory;
+use schema_traits::{SchemaNode, Validate};
 use serde_json::Value;
-use standard_basics::keyword::BasicKeyword;
+use standard_basics::BasicKeyword;
 use std::alloc::Global;
-use test_parts::detour_keyword::{DetourKeyword, nodes_of};
-use test_rows::tables::{column, list_at, text_at, texts_of};
+use test_parts::{DetourKeyword, nodes_of};
+use test_rows::{column, list_at, text_at, texts_of};
 
 /// Returns the keyword `pattern` of a row, whose value is column 1.
 ///

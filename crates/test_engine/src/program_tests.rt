@@ -2,16 +2,13 @@
 //!
 //! The tests compare printed texts to the letter, and statuses. They cover faults in the words,
 //! words that are not UTF-8, writers that refuse, and the words of a process.
-use bench_program::program::arguments::given_words;
-use bench_program::program::faults::Fault;
-use bench_program::program::{refuse, run};
-use schema_reports::location::OutOfMemory;
+use bench_program::{Fault, given_words, refuse, run};
+use schema_reports::OutOfMemory;
 use serde_json::Value;
 use std::alloc::Global;
 use std::slice::from_ref;
-use test_parts::narrow_writer::{NarrowWriter, push_written};
-use test_parts::words::{TwoWords, are_two_words, with_words};
-use test_rows::tables::{column, list_at, number_at};
+use test_parts::{NarrowWriter, TwoWords, are_two_words, push_written, with_words};
+use test_rows::{column, list_at, number_at};
 
 /// Returns the writer of a row.
 ///

@@ -4,11 +4,11 @@
 //! the number that the first one reserved. The numbers are in keywords of a custom type, so the
 //! rows of `test_check_rows` do not see them.
 use crate::asking::{built_by, push_refusal};
-use schema_reports::location::OutOfMemory;
-use schema_traits::table::KeywordTable;
+use schema_reports::OutOfMemory;
+use schema_traits::KeywordTable;
 use serde_json::Value;
 use std::alloc::Global;
-use test_parts::given_numbers::{Numbered, push_nodes};
+use test_parts::{Numbered, push_nodes};
 
 /// Adds the nodes of a row's schema, or why there are none.
 pub(crate) fn tell_numbers<K: Numbered, T: KeywordTable<K>>(

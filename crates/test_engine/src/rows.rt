@@ -10,17 +10,14 @@ use crate::mark_tests::MARKS;
 use crate::program_tests::{ANSWERS, FAULTS, WRITES, tell_program};
 use crate::reservation_tests::{RESERVATIONS, tell_numbers};
 use crate::vocabulary_tests::{VOCABULARIES, tell_names};
-use keyword_makers::by_value::TableByValue;
-use schema_reports::location::OutOfMemory;
+use keyword_makers::TableByValue;
+use schema_reports::OutOfMemory;
 use serde_json::Value;
-use standard_basics::keyword::BasicKeyword;
-use standard_basics::table::BasicTable;
+use standard_basics::{BasicKeyword, BasicTable};
 use std::alloc::Global;
-use test_laws::both_once::BothOnce;
-use test_laws::items::ItemsKeyword;
-use test_laws::items_table::ItemsTable;
-use test_parts::marking_table::MarkingTable;
-use test_rows::tables::{wanted_of, wrong_row};
+use test_laws::{BothOnce, ItemsKeyword, ItemsTable};
+use test_parts::MarkingTable;
+use test_rows::{wanted_of, wrong_row};
 
 /// The subject of a table's rows.
 #[derive(Clone, Copy)]

@@ -2,25 +2,18 @@
 //!
 //! A map checks the vocabularies that its root requires, but not those that its entries require.
 use crate::asking::push_refusal;
-use bench_parts::matcher::BenchMatcher;
-use bench_parts::meta::BenchMeta;
-use bench_program::narrow::narrow_resolver;
-use schema_engine::keywords::{Draft, VocabularySet};
-use schema_engine::map::ValidatorMap;
-use schema_engine::options::ValidationOptions;
-use schema_keys::error::BuildError;
-use schema_reports::location::OutOfMemory;
-use schema_traits::keyword::Validate;
-use schema_traits::matcher::Matcher;
-use schema_traits::resolver::Resolver;
-use schema_traits::table::KeywordTable;
+use bench_parts::{BenchMatcher, BenchMeta};
+use bench_program::narrow_resolver;
+use schema_engine::{Draft, ValidationOptions, ValidatorMap, VocabularySet};
+use schema_keys::BuildError;
+use schema_reports::OutOfMemory;
+use schema_traits::{KeywordTable, Matcher, Resolver, Validate};
 use serde_json::Value;
-use standard_basics::keyword::BasicKeyword;
-use standard_basics::table::BasicTable;
+use standard_basics::{BasicKeyword, BasicTable};
 use standard_resolver::DocumentResolver;
 use std::alloc::Global;
-use test_parts::draft_vocabularies::requiring_in_2019_09;
-use test_rows::tables::{column, text_at};
+use test_parts::requiring_in_2019_09;
+use test_rows::{column, text_at};
 
 /// Builds the map of a row's schema.
 fn map_of<K: Validate, T: KeywordTable<K>, R: Resolver, M: Matcher>(

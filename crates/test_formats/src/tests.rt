@@ -3,7 +3,7 @@
 //! The cases are those of the suite's optional groups on formats, in drafts 4, 6 and 7
 //! (JSON-Schema-Test-Suite, `optional/format`), whose instance is a text and whose format is
 //! checked by its grammar. The examples are from the standards that define the grammars.
-use text_formats::formats::Format;
+use text_formats::Format;
 
 /// A format's name, a text, and whether the text has the format.
 type Case = (&'static str, &'static str, bool);

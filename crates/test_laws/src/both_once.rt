@@ -7,9 +7,8 @@ ghost use Rattle.schema_traits.specs.KeywordViews.{reply_of};
 ghost use Rattle.test_laws.specs.BothOnce.{says_yes};
 
 use crate::refusals::tell;
-use schema_reports::instance::Instance;
-use schema_reports::location::OutOfMemory;
-use schema_traits::keyword::{Answer, Below, Marked, Mode, Reply, Step, Validate};
+use schema_reports::{Instance, OutOfMemory};
+use schema_traits::{Answer, Below, Marked, Mode, Reply, Step, Validate};
 use std::alloc::Global;
 
 /// The keyword.

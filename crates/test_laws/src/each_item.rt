@@ -7,10 +7,9 @@ ghost use Rattle.schema_traits.specs.KeywordViews.{reply_of};
 ghost use Rattle.test_laws.specs.EachItem.{says_no};
 
 use crate::refusals::tell;
-use keyword_authoring::items::item_count;
-use schema_reports::instance::Instance;
-use schema_reports::location::OutOfMemory;
-use schema_traits::keyword::{Answer, Below, Mode, Reply, Step, Validate};
+use keyword_authoring::item_count;
+use schema_reports::{Instance, OutOfMemory};
+use schema_traits::{Answer, Below, Mode, Reply, Step, Validate};
 use std::alloc::Global;
 
 /// The keyword.

@@ -2,9 +2,8 @@
 //!
 //! It first asks its only child, and drops the reply. So its verdicts, errors and units are right
 //! whatever it requests, and only the laws about requests restrict what it may request.
-use schema_reports::instance::Instance;
-use schema_reports::location::OutOfMemory;
-use schema_traits::keyword::{Answer, Below, Mode, Reply, Step, Validate};
+use schema_reports::{Instance, OutOfMemory};
+use schema_traits::{Answer, Below, Mode, Reply, Step, Validate};
 use std::alloc::Global;
 
 /// The keyword.

@@ -12,13 +12,9 @@ ghost use Rattle.keyword_authoring.specs.OwnWays.{own_words};
 ghost use Rattle.keyword_authoring.specs.Borrowing.{Borrows};
 
 use crate::marking::{Stage, after_step, first_stage};
-use keyword_authoring::items::is_list;
-use keyword_authoring::planned::{Asks, Plan, Planned, PlannedKeyword};
-use keyword_authoring::run::Progress;
-use schema_reports::instance::Instance;
-use schema_reports::location::OutOfMemory;
-use schema_traits::keyword::{Answer, Marked, Mode, Reply, Step, Validate};
-use schema_traits::numbers::PendingSchemaNode;
+use keyword_authoring::{Asks, Plan, Planned, PlannedKeyword, Progress, is_list};
+use schema_reports::{Instance, OutOfMemory};
+use schema_traits::{Answer, Marked, Mode, PendingSchemaNode, Reply, Step, Validate};
 use std::alloc::Global;
 
 /// The keywords, by how they handle an instance.

@@ -9,12 +9,13 @@ ghost use Rattle.test_laws.specs.ItemsTable.{AsksValue, Given, own_name};
 ghost use Rattle.schema_traits.specs.Showing.{Yields};
 
 use crate::items::{ItemsKeyword, ItemsPlan};
-use keyword_authoring::planned::Planned;
-use schema_drafts::keywords::{Draft, VocabularySet};
-use schema_reports::location::OutOfMemory;
-use schema_traits::numbers::PendingSchemaNode;
-use schema_traits::schema_place::{SchemaPath, SchemaStep};
-use schema_traits::table::{KeywordOrigin, KeywordTable, MakerReply, MakerStep, PendingKind};
+use keyword_authoring::Planned;
+use schema_drafts::{Draft, VocabularySet};
+use schema_reports::OutOfMemory;
+use schema_traits::{
+    KeywordOrigin, KeywordTable, MakerReply, MakerStep, PendingKind, PendingSchemaNode, SchemaPath,
+    SchemaStep,
+};
 use serde_json::{Map, Value};
 use std::alloc::Global;
 use std::rc::RcStr;

@@ -11,14 +11,26 @@
 //! contain a fraction.
 #![tactic(auto)]
 
-pub mod both_once;
-pub mod each_item;
-pub mod each_name;
-pub mod in_vain;
-pub mod items;
-pub mod items_table;
-pub mod marking;
-pub mod own_spot;
-pub mod printing_table;
-pub mod refusals;
-pub mod refusing;
+mod both_once;
+mod each_item;
+mod each_name;
+mod in_vain;
+mod items;
+mod items_table;
+mod marking;
+mod own_spot;
+mod printing_table;
+mod refusals;
+mod refusing;
+
+pub use both_once::BothOnce;
+pub use each_item::EachItem;
+pub use each_name::{EachName, EachNameShape};
+pub use in_vain::InVain;
+pub use items::{ItemsKeyword, ItemsPlan};
+pub use items_table::{ItemsMaker, ItemsTable};
+pub use marking::{after_step, first_stage};
+pub use own_spot::OwnSpot;
+pub use printing_table::{PrintingMaker, PrintingTable};
+pub use refusals::tell;
+pub use refusing::Refusing;

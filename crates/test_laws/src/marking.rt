@@ -3,7 +3,7 @@ ghost use Rattle.std.specs.Prelude.{◌≡◌};
 ghost use Rattle.schema_traits.specs.KeywordViews.{turn_of};
 ghost use Rattle.test_laws.specs.Marking.{after, first, shown};
 
-use schema_traits::keyword::Step;
+use schema_traits::Step;
 
 /// What a run does in its next turn.
 ///

@@ -4,7 +4,7 @@ ghost use Rattle.theory_definitions.specs.Keywords.{match_text};
 ghost use Rattle.schema_traits.specs.KeywordViews.{turn_of};
 ghost use Rattle.test_laws.specs.OwnSpot.{is_plain, name_point};
 
-use schema_traits::keyword::{Below, Spot, SpotMatch, Step};
+use schema_traits::{Below, Spot, SpotMatch, Step};
 use std::alloc::Global;
 
 /// A match at the keyword itself, shown with evaluation path and place.

@@ -12,11 +12,9 @@ ghost use Rattle.test_laws.specs.PrintingTable.{ending_of, printed_error, refuse
 ghost use Rattle.schema_traits.specs.Showing.{Shows};
 ghost use Rattle.schema_traits.specs.Readings.{fields, value_read};
 
-use schema_drafts::keywords::{Draft, VocabularySet};
-use schema_reports::location::{Location, OutOfMemory};
-use schema_reports::reports::OwnedError;
-use schema_traits::keyword::Validate;
-use schema_traits::table::{KeywordOrigin, KeywordTable, MakerReply, MakerStep};
+use schema_drafts::{Draft, VocabularySet};
+use schema_reports::{Location, OutOfMemory, OwnedError};
+use schema_traits::{KeywordOrigin, KeywordTable, MakerReply, MakerStep, Validate};
 use serde_json::{Map, Value};
 use std::alloc::Global;
 

@@ -7,10 +7,8 @@ ghost use Rattle.test_laws.specs.Refusals.{refusal, refused_in, told};
 ghost use Rattle.keyword_authoring.specs.AnswerWords.{Becomes};
 ghost use Rattle.keyword_authoring.specs.Borrowing.{Retains};
 
-use schema_reports::evaluation::ErrorDescription;
-use schema_reports::evaluation_result::EvaluationResult;
-use schema_reports::location::OutOfMemory;
-use schema_traits::keyword::{Answer, Fault, Found, OwnError};
+use schema_reports::{ErrorDescription, EvaluationResult, OutOfMemory};
+use schema_traits::{Answer, Fault, Found, OwnError};
 use std::alloc::Global;
 use std::mem;
 

@@ -2,9 +2,8 @@
 //!
 //! Its run has no state at all: a turn takes the mode from the answer.
 use crate::refusals::tell;
-use schema_reports::instance::Instance;
-use schema_reports::location::OutOfMemory;
-use schema_traits::keyword::{Answer, Mode, Reply, Step, Validate};
+use schema_reports::{Instance, OutOfMemory};
+use schema_traits::{Answer, Mode, Reply, Step, Validate};
 use std::alloc::Global;
 
 /// The keyword.

@@ -4,15 +4,11 @@ ghost use Rattle.schema_reports.specs.InstanceViews.{subject_of};
 ghost use Rattle.schema_traits.specs.KeywordViews.{mode_of, turn_of};
 ghost use Rattle.test_parts.specs.Detours.{match_at, matches_before, pattern_at, text_in};
 
-use schema_drafts::keywords::BuiltinKeyword;
-use schema_node_table::node::name::KeywordName;
-use schema_node_table::node::{Entry, EntryForm, NodeForm, Nodes};
-use schema_reports::instance::Instance;
-use schema_reports::location::{Location, OutOfMemory};
-use schema_traits::keyword::{Answer, Mode, Reply, Step, Validate};
-use standard_basics::keyword::BasicKeyword;
-use standard_basics::names::NamesRun;
-use standard_basics::texts::text_of;
+use schema_drafts::BuiltinKeyword;
+use schema_node_table::{Entry, EntryForm, KeywordName, NodeForm, Nodes};
+use schema_reports::{Instance, Location, OutOfMemory};
+use schema_traits::{Answer, Mode, Reply, Step, Validate};
+use standard_basics::{BasicKeyword, NamesRun, text_of};
 use std::alloc::Global;
 use std::marker::Model;
 

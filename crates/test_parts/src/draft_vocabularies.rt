@@ -1,6 +1,6 @@
 //! Required vocabularies, with one more in only one draft.
-use schema_drafts::keywords::{Vocabulary, VocabularySet};
-use schema_reports::location::OutOfMemory;
+use schema_drafts::{Vocabulary, VocabularySet};
+use schema_reports::OutOfMemory;
 use standard_resolver::DraftVocabularies;
 use std::alloc::Global;
 

@@ -1,9 +1,9 @@
 //! A matcher whose engine fails, and which runs out of memory once, at a chosen question.
-use schema_reports::location::OutOfMemory;
-use schema_traits::matcher::Matcher;
+use schema_reports::OutOfMemory;
+use schema_traits::Matcher;
 use std::alloc::{AllocError, Global};
 use std::cell::Cell;
-use unfinished_matches::site::{Match, Reason};
+use unfinished_matches::{Match, Reason};
 
 /// A matcher that leaves every match unfinished, since its engine fails.
 ///

@@ -1,10 +1,8 @@
 //! The numbers that makers were given, as their keywords hold them.
-use schema_node_table::node::Nodes;
-use schema_node_table::node::validators::NodeValidator;
-use schema_reports::location::OutOfMemory;
-use schema_traits::keyword::Validate;
-use schema_traits::numbers::{PendingSchemaNode, SchemaNode};
-use test_laws::items::ItemsKeyword;
+use schema_node_table::{NodeValidator, Nodes};
+use schema_reports::OutOfMemory;
+use schema_traits::{PendingSchemaNode, SchemaNode, Validate};
+use test_laws::ItemsKeyword;
 
 /// A keyword that may hold the number that its maker was given.
 pub trait Numbered: Validate {

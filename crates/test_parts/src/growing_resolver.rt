@@ -5,10 +5,9 @@ ghost use Rattle.std.specs.Prelude.{◌≡◌, MatchResult, Ok};
 ghost use Rattle.schema_traits.specs.ResolverViews.{Refuses, found_of};
 ghost use Rattle.test_parts.specs.Growing.{next};
 
-use schema_drafts::keywords::{Draft, VocabularySet};
-use schema_reports::location::OutOfMemory;
-use schema_traits::resolver::{LookupError, Resolver, Target};
-use schema_traits::schema_place::SchemaPlace;
+use schema_drafts::{Draft, VocabularySet};
+use schema_reports::OutOfMemory;
+use schema_traits::{LookupError, Resolver, SchemaPlace, Target};
 use serde_json::Value;
 use standard_resolver::{DocumentResolver, root_place};
 use std::alloc::Global;

@@ -7,12 +7,22 @@
 //! the numbers that makers were given.
 #![tactic(auto)]
 
-pub mod detour_keyword;
-pub mod draft_vocabularies;
-pub mod failing_matcher;
-pub mod given_numbers;
-pub mod growing_resolver;
-pub mod marking_table;
-pub mod narrow_writer;
-pub mod reference_chain;
-pub mod words;
+mod detour_keyword;
+mod draft_vocabularies;
+mod failing_matcher;
+mod given_numbers;
+mod growing_resolver;
+mod marking_table;
+mod narrow_writer;
+mod reference_chain;
+mod words;
+
+pub use detour_keyword::{DetourKeyword, DetourShape, nodes_of};
+pub use draft_vocabularies::requiring_in_2019_09;
+pub use failing_matcher::FailingMatcher;
+pub use given_numbers::{Numbered, push_nodes};
+pub use growing_resolver::GrowingResolver;
+pub use marking_table::MarkingTable;
+pub use narrow_writer::{NarrowWriter, push_written};
+pub use reference_chain::row_of;
+pub use words::{TwoWords, are_two_words, with_words};

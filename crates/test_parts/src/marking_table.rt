@@ -1,9 +1,9 @@
 //! A table that makes `allOf` a keyword that marks its children.
-use keyword_makers::by_value::{Children, MakesByValue, MemberKeyword};
-use schema_reports::location::OutOfMemory;
+use keyword_makers::{Children, MakesByValue, MemberKeyword};
+use schema_reports::OutOfMemory;
 use serde_json::Value;
 use std::alloc::Global;
-use test_laws::both_once::BothOnce;
+use test_laws::BothOnce;
 
 /// Makes `allOf`, with two subschemas, a keyword that marks both.
 #[derive(Drop)]

@@ -1,5 +1,5 @@
 //! A writer that refuses, and the text that it took.
-use schema_reports::location::OutOfMemory;
+use schema_reports::OutOfMemory;
 use std::io;
 use std::io::{ErrorKind, Write};
 

@@ -1,5 +1,5 @@
 //! A chain of references.
-use schema_reports::location::OutOfMemory;
+use schema_reports::OutOfMemory;
 use serde_json::Value;
 use std::alloc::Global;
 

@@ -1,5 +1,5 @@
 //! Words of a program.
-use schema_reports::location::OutOfMemory;
+use schema_reports::OutOfMemory;
 use serde_json::Value;
 use std::alloc::Global;
 use std::env::{Env, FillError};

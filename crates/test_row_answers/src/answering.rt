@@ -9,19 +9,16 @@ use crate::checking::checked;
 use crate::clones::answered_alike;
 use crate::free_calls::answered_free;
 use crate::maps::answered_by_map;
-use example_fused_keywords::table::FusedTable;
-use example_keywords::strings::StringTable;
-use keyword_joins::table::BothTable;
-use keyword_makers::by_value::TableByValue;
-use schema_engine::context::keyword::Validate;
-use schema_engine::context::table::KeywordTable;
-use schema_engine::location::OutOfMemory;
+use example_fused_keywords::FusedTable;
+use example_keywords::StringTable;
+use keyword_joins::BothTable;
+use keyword_makers::TableByValue;
+use schema_engine::{KeywordTable, OutOfMemory, Validate};
 use serde_json::{Value, json};
-use standard_basics::table::BasicTable;
+use standard_basics::BasicTable;
 use std::alloc::Global;
-use test_laws::items_table::ItemsTable;
-use test_rows::call::Call;
-use test_rows::case::{Case, Table};
+use test_laws::ItemsTable;
+use test_rows::{Call, Case, Table};
 
 // Returns the engine's answer to a case by a table.
 fn answer_by<K: Validate, T: KeywordTable<K>>(

@@ -1,15 +1,13 @@
 //! The answers of a validator for an instance.
 
-use bench_parts::matcher::BenchMatcher;
-use schema_engine::context::keyword::Validate;
-use schema_engine::location::OutOfMemory;
-use schema_engine::validator::Validator;
+use bench_parts::BenchMatcher;
+use schema_engine::{OutOfMemory, Validate, Validator};
 use serde_json::Value;
 use std::alloc::Global;
-use test_rows::answers::{Answers, agreed};
-use test_rows::call::Question;
-use test_rows::case::number_of;
-use test_rows::showing::{counted, errors_in, first_in, list_in, shown_in, units_counted};
+use test_rows::{
+    Answers, Question, agreed, counted, errors_in, first_in, list_in, number_of, shown_in,
+    units_counted,
+};
 
 fn first_error<K: Validate>(
     alloc: Global,

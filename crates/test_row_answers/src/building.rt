@@ -3,17 +3,12 @@
 use crate::asking::asked;
 use crate::refusals::refusal;
 use crate::setting::Setting;
-use bench_parts::matcher::BenchMatcher;
-use bench_parts::meta::BenchMeta;
-use schema_engine::context::keyword::Validate;
-use schema_engine::context::table::KeywordTable;
-use schema_engine::location::OutOfMemory;
-use schema_engine::validator::Validator;
-use schema_keys::error::BuildError;
+use bench_parts::{BenchMatcher, BenchMeta};
+use schema_engine::{KeywordTable, OutOfMemory, Validate, Validator};
+use schema_keys::BuildError;
 use serde_json::Value;
 use std::alloc::Global;
-use test_rows::call::Question;
-use test_rows::case::Case;
+use test_rows::{Case, Question};
 
 fn built_by<K: Validate, T: KeywordTable<K>>(
     alloc: Global,

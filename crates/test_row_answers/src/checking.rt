@@ -2,15 +2,13 @@
 
 use crate::refusals::refusal;
 use crate::setting::{default_draft, resolver_of};
-use bench_parts::meta::BenchMeta;
-use schema_engine::location::OutOfMemory;
-use schema_keys::check::validate_schema;
-use schema_keys::error::BuildError;
+use bench_parts::BenchMeta;
+use schema_engine::OutOfMemory;
+use schema_keys::{BuildError, validate_schema};
 use serde_json::Value;
 use standard_resolver::root_place;
 use std::alloc::Global;
-use test_rows::case::Case;
-use test_rows::showing::text_or_null;
+use test_rows::{Case, text_or_null};
 
 // Checks a case's schema, as one of its default draft, by the meta validators.
 fn check_of(alloc: Global, case: &Case<'_>) -> Result<(), BuildError> {

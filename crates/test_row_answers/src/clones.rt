@@ -5,16 +5,12 @@
 use crate::asking::asked;
 use crate::building::built;
 use crate::refusals::refusal;
-use bench_parts::matcher::BenchMatcher;
-use schema_engine::location::OutOfMemory;
-use schema_engine::validator::Validator;
+use bench_parts::BenchMatcher;
+use schema_engine::{OutOfMemory, Validator};
 use serde_json::Value;
-use standard_basics::keyword::BasicKeyword;
-use standard_basics::table::BasicTable;
+use standard_basics::{BasicKeyword, BasicTable};
 use std::alloc::Global;
-use test_rows::answers::disagreement;
-use test_rows::call::Question;
-use test_rows::case::Case;
+use test_rows::{Case, Question, disagreement};
 
 // Returns the answer of a clone, or `null` if its root or its draft is not its source's.
 fn asked_of_clone(

@@ -2,19 +2,16 @@
 
 use crate::refusals::refusal;
 use crate::setting::Setting;
-use bench_parts::meta::BenchMeta;
-use schema_engine::context::keyword::Validate;
-use schema_engine::context::table::KeywordTable;
-use schema_engine::location::OutOfMemory;
-use schema_engine::reports::{ErrorIterator, ValidationError};
-use schema_engine::{evaluate, is_valid, iter_errors, validate};
-use schema_keys::error::BuildError;
-use schema_output::evaluation::Evaluation;
+use bench_parts::BenchMeta;
+use schema_engine::{
+    ErrorIterator, KeywordTable, OutOfMemory, Validate, ValidationError, evaluate, is_valid,
+    iter_errors, validate,
+};
+use schema_keys::BuildError;
+use schema_output::Evaluation;
 use serde_json::Value;
 use std::alloc::Global;
-use test_rows::answers::{Answers, agreed};
-use test_rows::case::Case;
-use test_rows::showing::{errors_in, first_in};
+use test_rows::{Answers, Case, agreed, errors_in, first_in};
 
 fn accepts<K: Validate, T: KeywordTable<K>>(
     alloc: Global,

@@ -5,7 +5,7 @@
 //! modules `asking`, `building`, `checking`, `clones`, `free_calls` and `maps` call the engine.
 #![tactic(auto)]
 
-pub mod answering;
+mod answering;
 mod asking;
 mod building;
 mod checking;
@@ -15,4 +15,4 @@ mod maps;
 mod refusals;
 mod setting;
 
-pub use crate::answering::answer;
+pub use answering::answer;

@@ -3,18 +3,12 @@
 use crate::asking::all_errors;
 use crate::refusals::refusal;
 use crate::setting::Setting;
-use bench_parts::matcher::BenchMatcher;
-use bench_parts::meta::BenchMeta;
-use schema_engine::context::keyword::Validate;
-use schema_engine::context::table::KeywordTable;
-use schema_engine::location::OutOfMemory;
-use schema_engine::map::ValidatorMap;
-use schema_engine::validator::Validator;
-use schema_keys::error::BuildError;
+use bench_parts::{BenchMatcher, BenchMeta};
+use schema_engine::{KeywordTable, OutOfMemory, Validate, Validator, ValidatorMap};
+use schema_keys::BuildError;
 use serde_json::{Value, json};
 use std::alloc::Global;
-use test_rows::call::MapQuestion;
-use test_rows::case::{Case, number_of};
+use test_rows::{Case, MapQuestion, number_of};
 
 fn map_by<K: Validate, T: KeywordTable<K>>(
     alloc: Global,

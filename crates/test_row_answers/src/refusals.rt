@@ -1,10 +1,10 @@
 //! The reasons why there is no validator.
 
-use schema_engine::location::OutOfMemory;
-use schema_keys::error::BuildError;
+use schema_engine::OutOfMemory;
+use schema_keys::BuildError;
 use serde_json::{Value, json};
 use std::alloc::{AllocError, Global};
-use test_rows::showing::text_or_null;
+use test_rows::text_or_null;
 
 // Returns the place of a refusal that has one: a location in the schema, the schema path of a
 // table's error, or an instance path of the meta validators.

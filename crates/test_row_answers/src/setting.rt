@@ -1,15 +1,12 @@
 //! The parts that the schema of a case is built with.
 
-use bench_parts::matcher::BenchMatcher;
-use bench_program::narrow::narrow_resolver;
-use schema_engine::keywords::{Draft, Vocabulary, VocabularySet};
-use schema_engine::location::OutOfMemory;
-use schema_engine::options::ValidationOptions;
+use bench_parts::BenchMatcher;
+use bench_program::narrow_resolver;
+use schema_engine::{Draft, OutOfMemory, ValidationOptions, Vocabulary, VocabularySet};
 use serde_json::Value;
 use standard_resolver::{Document, DocumentResolver, Rule};
 use std::alloc::Global;
-use test_rows::case::Case;
-use test_rows::tables::texts_of;
+use test_rows::{Case, texts_of};
 
 /// The options, the resolver, the matcher, and the limit of `build_nested`.
 ///

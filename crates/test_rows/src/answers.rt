@@ -1,6 +1,6 @@
 //! The answers of the four calls for one instance, and whether they agree.
 
-use schema_reports::location::OutOfMemory;
+use schema_reports::OutOfMemory;
 use serde_json::{Value, json};
 use std::alloc::Global;
 

@@ -7,7 +7,7 @@ ghost use Rattle.test_rows.specs.Cases.{IsNoCase, case_in, is_asked_by, table_in
 ghost use Rattle.test_rows.specs.Members.{count_in, draft_in, draft_numbered, list_of, number_of, runs_in};
 
 use crate::call::Call;
-use schema_drafts::keywords::Draft;
+use schema_drafts::Draft;
 use serde_json::Value;
 
 /// A keyword table.

@@ -1,8 +1,7 @@
 //! The results of the engine, as values.
 
-use schema_output::evaluation::Evaluation;
-use schema_reports::location::OutOfMemory;
-use schema_reports::reports::{ErrorIterator, ValidationError};
+use schema_output::Evaluation;
+use schema_reports::{ErrorIterator, OutOfMemory, ValidationError};
 use serde_json::{Value, json};
 use std::alloc::Global;
 

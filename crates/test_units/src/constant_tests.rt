@@ -4,9 +4,9 @@
 //! accepts `null`. An evaluation, an error and a unit are each in a box of their own, so that an
 //! answer, a reply and a keyword's request are a few words long in every mode.
 
-use schema_drafts::keywords::{NotNullable, Nullability, Nullable};
-use schema_reports::location::OutOfMemory;
-use schema_traits::keyword::{Answer, Reply, Step};
+use schema_drafts::{NotNullable, Nullability, Nullable};
+use schema_reports::OutOfMemory;
+use schema_traits::{Answer, Reply, Step};
 use std::mem::size_of;
 
 const _: () = prove!(size_of::<Answer<'static>>() <= 32);

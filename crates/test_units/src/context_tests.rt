@@ -3,16 +3,14 @@
 //! A table's makers may request them, so no row of `test_check_rows` covers them. They include
 //! whether formats are checked: the option decides, or else the vocabularies, or the draft if it is
 //! before 2019-09.
-use schema_drafts::keywords::{Draft, Vocabulary, VocabularySet};
-use schema_keys::context::Context;
-use schema_keys::key::SchemaKey;
-use schema_keys::options::CompileOptions;
-use schema_reports::location::{Location, OutOfMemory};
-use schema_traits::resolver::Resolver;
+use schema_drafts::{Draft, Vocabulary, VocabularySet};
+use schema_keys::{CompileOptions, Context, SchemaKey};
+use schema_reports::{Location, OutOfMemory};
+use schema_traits::Resolver;
 use serde_json::Value;
 use standard_resolver::{Document, DocumentResolver, Rule};
 use std::alloc::Global;
-use test_rows::tables::{column, number_at, push_all, text_at};
+use test_rows::{column, number_at, push_all, text_at};
 
 fn draft_of(number: Option<usize>) -> Draft {
     match number {

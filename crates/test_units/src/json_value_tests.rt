@@ -1,14 +1,13 @@
 //! Numbers and equality of JSON values, at their edges.
-use json_values::distinct::are_all_distinct;
-use json_values::equality::{are_all_distinct_by_pairs, is_equal};
-use json_values::held::HeldValue;
-use json_values::multiples::{is_integer_valued, is_multiple_of, is_rounded_multiple_of};
-use json_values::numbers::compare;
-use schema_reports::location::OutOfMemory;
+use json_values::{
+    HeldValue, are_all_distinct, are_all_distinct_by_pairs, compare, is_equal, is_integer_valued,
+    is_multiple_of, is_rounded_multiple_of,
+};
+use schema_reports::OutOfMemory;
 use serde_json::{Number, Value};
 use std::alloc::Global;
 use std::cmp::Ordering;
-use test_rows::tables::{column, list_at, text_at};
+use test_rows::{column, list_at, text_at};
 
 /// Returns the word for an answer.
 fn yes_or_no(answer: bool) -> &'static str {

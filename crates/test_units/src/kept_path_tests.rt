@@ -2,12 +2,11 @@
 //!
 //! None of the first 4,095 paths under a reference is kept; from then on each path that is
 //! requested is kept once. Clauses state which path a call returns, but not how many are kept.
-use schema_reports::location::{Location, OutOfMemory};
-use schema_run_context::evaluation_path::EvaluationPath;
-use schema_run_context::kept_paths::KeptPaths;
+use schema_reports::{Location, OutOfMemory};
+use schema_run_context::{EvaluationPath, KeptPaths};
 use serde_json::Value;
 use std::alloc::Global;
-use test_rows::tables::{column, list_at, text_at};
+use test_rows::{column, list_at, text_at};
 
 /// Requests the path of a turn's keyword as many times as the turn says.
 ///

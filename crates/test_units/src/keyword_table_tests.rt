@@ -1,14 +1,14 @@
 //! The table of the standard's keywords, cell by cell, as it is published.
 //!
 //! The definition that the clauses cite is another copy of it.
-use schema_drafts::keywords::{
+use schema_drafts::{
     BuiltinKeyword, Draft, Keyword, KeywordForm, Vocabulary, VocabularySet, builtin_row,
     keyword_is_leaf, keyword_priority,
 };
-use schema_reports::location::OutOfMemory;
+use schema_reports::OutOfMemory;
 use serde_json::Value;
 use std::alloc::Global;
-use test_rows::tables::{column, text_at};
+use test_rows::{column, text_at};
 
 /// Returns the form that a cell names, if the keyword exists.
 fn form_in(cell: &str) -> Option<KeywordForm> {

@@ -6,10 +6,10 @@ use crate::context_tests::{CONTEXTS, tell_context};
 use crate::json_value_tests::{VALUES, tell_values};
 use crate::kept_path_tests::{KEPT, tell_kept};
 use crate::keyword_table_tests::{KEYWORDS, tell_keyword};
-use schema_reports::location::OutOfMemory;
+use schema_reports::OutOfMemory;
 use serde_json::Value;
 use std::alloc::Global;
-use test_rows::tables::{wanted_of, wrong_row};
+use test_rows::{wanted_of, wrong_row};
 
 /// The subject of a table's rows.
 #[derive(Clone, Copy)]

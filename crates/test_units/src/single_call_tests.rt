@@ -1,16 +1,14 @@
 //! Public calls that no other crate makes, each once.
 //!
 //! A clause states the result of a call that succeeds, but not that it succeeds.
-use schema_node_table::node::Nodes;
-use schema_reports::evaluation::{EvaluationNode, UnitReport};
-use schema_reports::evaluation_result::EvaluationResult;
-use schema_reports::location::{Location, OutOfMemory};
-use schema_reports::shared_location::SharedLocation;
-use schema_traits::schema_place::SchemaPath;
+use schema_node_table::Nodes;
+use schema_reports::{
+    EvaluationNode, EvaluationResult, Location, OutOfMemory, SharedLocation, UnitReport,
+};
+use schema_traits::SchemaPath;
 use serde_json::Value;
 use std::alloc::Global;
-use unfinished_matches::assumptions::MatchAssumptions;
-use unfinished_matches::site::{MatchSite, Reason};
+use unfinished_matches::{MatchAssumptions, MatchSite, Reason};
 
 /// Adds a node that refuses, and one that has no entry.
 fn add_two(alloc: Global, nodes: &mut Nodes<usize>) -> Result<(), OutOfMemory> {

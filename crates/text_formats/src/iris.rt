@@ -6,7 +6,7 @@ ghost use Rattle.uri_references.specs.Views.{components_of};
 ghost use Rattle.text_formats.specs.Iris as spec;
 
 use crate::uris::fit;
-use uri_references::components::Components;
+use uri_references::Components;
 
 // Returns whether an IRI may have this character outside ASCII.
 fn is_universal(code: u32) -> bool

@@ -8,7 +8,7 @@ ghost use Rattle.text_formats.specs.Uris as spec;
 use crate::addresses::is_ipv6_in;
 use crate::characters::{are_digits, are_hex_digits, is_digit, is_hex_digit, is_letter};
 use crate::cutting::cut;
-use uri_references::components::Components;
+use uri_references::Components;
 
 // A class of characters: those of a host's name, of the user information before a host, of a path,
 // of a query or fragment, of a template's literals, or of the names of its variables.

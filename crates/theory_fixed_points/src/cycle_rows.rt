@@ -5,7 +5,7 @@ ghost use Rattle.theory_fixed_points.specs.Cycles.{AllAndMatchRefuses, AnyOrMatc
 ///
 /// The rows are computed from the definitions alone, over a tiny resolver, table, matcher and
 /// keyword type. The function does nothing when it runs.
-pub fn worked_rows()
+pub fn worked_cycle_rows()
     ensures two_refuse_number { TwoRefuseNumber }
     ensures two_accept_text { TwoAcceptText }
     ensures any_or_match_accepts { AnyOrMatchAccepts }

@@ -7,6 +7,13 @@
 //! in its contract, and does nothing when it runs.
 #![tactic(auto)]
 
-pub mod cycle_rows;
-pub mod rows;
-pub mod solutions;
+mod cycle_rows;
+mod rows;
+mod solutions;
+
+pub use cycle_rows::worked_cycle_rows;
+pub use rows::worked_rows;
+pub use solutions::{
+    calls_say_greatest, nodes_say_greatest, numbers_are_monotone, numbers_say_greatest,
+    reached_say_greatest, solver_says,
+};

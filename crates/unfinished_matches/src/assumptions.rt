@@ -12,7 +12,7 @@ ghost use Rattle.theory_definitions.specs.Unfinished.{FirstIsNew, first_unassume
 use crate::located::LocatedMatches;
 use crate::positions::{add_position, match_hash};
 use crate::site::{LocatedMatch, MatchFailure, MatchSite, Reason, UnfinishedMatch};
-use schema_reports::location::OutOfMemory;
+use schema_reports::OutOfMemory;
 use std::alloc::{AllocError, Global};
 use std::collections::HashMap;
 use std::marker::Model;

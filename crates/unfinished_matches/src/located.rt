@@ -5,7 +5,7 @@ ghost use Rattle.theory_definitions.specs.Unfinished.{noted, site_of};
 
 use crate::positions::{match_hash, reserve_next};
 use crate::site::{LocatedMatch, MatchSite, place_of};
-use schema_reports::location::OutOfMemory;
+use schema_reports::OutOfMemory;
 use std::alloc::Global;
 use std::collections::HashMap;
 use std::marker::Model;

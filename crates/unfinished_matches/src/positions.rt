@@ -4,7 +4,7 @@ ghost use Rattle.std.specs.HashMap.{get};
 ghost use Rattle.unfinished_matches.specs.MatchViews.{pair_of};
 ghost use Rattle.unfinished_matches.specs.HashIndex.{IndexesNext, StaysIndexed, match_hash};
 
-use schema_reports::location::OutOfMemory;
+use schema_reports::OutOfMemory;
 use std::collections::HashMap;
 use std::hash::{FoldHasher, Hasher};
 

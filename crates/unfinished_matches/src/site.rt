@@ -15,10 +15,7 @@ ghost use Rattle.unfinished_matches.specs.HashIndex.{match_hash};
 ghost use Rattle.theory_definitions.specs.Unfinished.{located_by, or_pattern, site_of};
 
 use crate::positions::match_hash;
-use schema_reports::instance::{Instance, Place};
-use schema_reports::location::{Location, OutOfMemory};
-use schema_reports::reports::ValidationError;
-use schema_reports::text::Text;
+use schema_reports::{Instance, Location, OutOfMemory, Place, Text, ValidationError};
 use serde_json::Value;
 use std::alloc::{AllocError, Global};
 use std::marker::Model;

@@ -9,14 +9,12 @@ ghost use Rattle.unfinished_search.specs.KeyHashes.{key_hash};
 ghost use Rattle.theory_definitions.specs.Pointer.{pointer_to};
 ghost use Rattle.unfinished_search.specs.SharedResults.{has_key, in_each_of, same_key};
 
-use schema_reports::instance::Place;
-use schema_reports::location::OutOfMemory;
-use schema_reports::reports::ValidationError;
+use schema_reports::{OutOfMemory, Place, ValidationError};
 use std::alloc::Global;
 use std::collections::HashMap;
 use std::hash::{FoldHasher, Hasher};
 use std::marker::Model;
-use unfinished_matches::positions::add_position;
+use unfinished_matches::add_position;
 
 /// The errors of a result, in order. Contracts see the list.
 #[derive(Drop)]

@@ -12,5 +12,4 @@ mod under_each;
 pub use search::{MAX_ASSUMED_RUNS, Outcomes, assume_each_outcome, assume_within};
 pub use shared::{errors, validity};
 pub use under_each::{errors_under_each, validity_under_each};
-pub use unfinished_matches::assumptions::MatchAssumptions;
-pub use unfinished_matches::site::{Match, MatchFailure, MatchSite, Reason};
+pub use unfinished_matches::{Match, MatchAssumptions, MatchFailure, MatchSite, Reason};

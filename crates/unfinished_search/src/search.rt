@@ -5,10 +5,9 @@ ghost use Rattle.theory_meaning.specs.Search.{UsesBelow};
 ghost use Rattle.theory_definitions.specs.Unfinished.{Failure, FirstIsNew, located_by, starting};
 ghost use Rattle.unfinished_search.specs.Outcomes.{AreOutcomes, by_run};
 
-use schema_reports::location::OutOfMemory;
+use schema_reports::OutOfMemory;
 use std::alloc::Global;
-use unfinished_matches::assumptions::{AssumedOutcomes, MatchAssumptions};
-use unfinished_matches::site::{MatchFailure, UnfinishedMatch};
+use unfinished_matches::{AssumedOutcomes, MatchAssumptions, MatchFailure, UnfinishedMatch};
 
 /// The default limit on the number of runs that a call makes.
 ///

@@ -8,11 +8,10 @@ ghost use Rattle.serde_json.specs.View.{view};
 
 use super::keyed::{KeyedErrors, is_in_each, keyed};
 use super::search::Outcomes;
-use schema_reports::location::OutOfMemory;
-use schema_reports::reports::ValidationError;
+use schema_reports::{OutOfMemory, ValidationError};
 use serde_json::Value;
 use std::alloc::Global;
-use unfinished_matches::site::MatchFailure;
+use unfinished_matches::MatchFailure;
 
 fn all_valid(results: &[bool]) -> bool
     ensures { result ≡ list_all (λ b. b) results.now }

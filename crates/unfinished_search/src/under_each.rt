@@ -18,11 +18,10 @@ ghost use Rattle.theory_meaning.specs.Shared.{EachAccepts, errors_of};
 
 use super::search::assume_each_outcome;
 use super::shared::{errors, validity};
-use schema_reports::location::OutOfMemory;
-use schema_reports::reports::ValidationError;
+use schema_reports::{OutOfMemory, ValidationError};
 use serde_json::Value;
 use std::alloc::Global;
-use unfinished_matches::assumptions::MatchAssumptions;
+use unfinished_matches::MatchAssumptions;
 
 /// Returns whether the instance is valid under each combination of outcomes.
 ///

@@ -5,8 +5,12 @@
 //! `folder/`. RFC 3986 changes only the dots in paths, and accepts any text.
 #![tactic(auto)]
 
-pub mod components;
-pub mod paths;
-pub mod references;
+mod components;
+mod paths;
+mod references;
 #[cfg(test)]
 mod tests;
+
+pub use components::Components;
+pub use paths::{through_last_slash, without_dots};
+pub use references::resolve;

@@ -19,14 +19,12 @@ ghost use Rattle.bench_program.specs.declared.program.requests.Call.TheVariants.
 
 use crate::program::Status;
 use crate::program::requests::Call;
-use bench_parts::matcher::BenchMatcher;
-use schema_engine::context::Work;
-use schema_engine::validator::Validator;
-use schema_output::evaluation::Evaluation;
-use schema_reports::location::OutOfMemory;
-use schema_reports::reports::ValidationError;
+use bench_parts::BenchMatcher;
+use schema_engine::{Validator, Work};
+use schema_output::Evaluation;
+use schema_reports::{OutOfMemory, ValidationError};
 use serde_json::Value;
-use standard_basics::keyword::BasicKeyword;
+use standard_basics::BasicKeyword;
 use std::alloc::Global;
 
 /// What the program prints about an instance, and whether it is accepted.

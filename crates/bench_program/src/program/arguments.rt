@@ -1,5 +1,5 @@
 //! The arguments of the process.
-use schema_reports::location::OutOfMemory;
+use schema_reports::OutOfMemory;
 use std::alloc::{AllocError, Global};
 use std::env::{Env, FillError};
 

@@ -4,7 +4,7 @@ ghost use Rattle.bench_program.specs.ProgramRuns.{fault_status};
 ghost use Rattle.std.specs.Prelude.{◌≡◌, Some};
 
 use crate::program::Status;
-use schema_keys::error::BuildError;
+use schema_keys::BuildError;
 use std::alloc::{AllocError, AllocFailed};
 use std::fmt;
 

@@ -8,9 +8,9 @@ ghost use Rattle.bench_program.specs.ProgramViews.{texts, words_of};
 ghost use Rattle.bench_program.specs.ProgramWords.{Holds, IsListOf, IsTextOf, call_in, call_named, listed, words_in};
 
 use crate::program::faults::{Fault, Word};
-use schema_reports::location::OutOfMemory;
+use schema_reports::OutOfMemory;
 use serde_json::{Category, Value};
-use standard_basics::table::keyword_values::texts_of;
+use standard_basics::texts_of;
 use std::alloc::Global;
 
 /// A call of the engine. MODE names it: `valid`, `first`, `errors` or `list`.

@@ -9,9 +9,9 @@ ghost use Rattle.theory_definitions.specs.Units.{object_of, without};
 ghost use Rattle.schema_drafts.specs.KeywordViews.{draft_of};
 
 use crate::compiler::setup::Compiler;
-use schema_keys::key::SchemaKey;
-use schema_reports::location::OutOfMemory;
-use schema_traits::resolver::Resolver;
+use schema_keys::SchemaKey;
+use schema_reports::OutOfMemory;
+use schema_traits::Resolver;
 use serde_json::{Map, Value};
 
 impl<'p, R: Resolver, T> Compiler<'p, R, T> {

@@ -9,15 +9,10 @@ ghost use Rattle.schema_keys.specs.declared.error.BuildError.TheVariants as buil
 
 use crate::compiler::reservations::Reservations;
 use crate::compiler::setup::Compiler;
-use schema_keys::error::BuildError;
-use schema_keys::key::SchemaKey;
-use schema_keys::keys::Keys;
-use schema_node_table::node::{NodeForm, Nodes};
-use schema_reports::location::{Location, OutOfMemory};
-use schema_traits::keyword::Validate;
-use schema_traits::numbers::{Edge, SchemaNode};
-use schema_traits::resolver::Resolver;
-use schema_traits::table::KeywordTable;
+use schema_keys::{BuildError, Keys, SchemaKey};
+use schema_node_table::{NodeForm, Nodes};
+use schema_reports::{Location, OutOfMemory};
+use schema_traits::{Edge, KeywordTable, Resolver, SchemaNode, Validate};
 use serde_json::Value;
 use std::alloc::Global;
 use std::hash::Hash;

@@ -7,10 +7,9 @@ ghost use Rattle.schema_compiler.specs.Ordering.{placed_after};
 ghost use Rattle.schema_compiler.specs.Steps.{alone};
 
 use crate::compiler::compilation::PlannedNode;
-use schema_drafts::keywords::BuiltinKeyword;
-use schema_node_table::node::name::KeywordName;
-use schema_node_table::node::{Entry, EntryForm, NodeForm};
-use schema_reports::location::OutOfMemory;
+use schema_drafts::BuiltinKeyword;
+use schema_node_table::{Entry, EntryForm, KeywordName, NodeForm};
+use schema_reports::OutOfMemory;
 use std::alloc::Global;
 
 // The index after the leading keywords with this priority or a lower one.

@@ -7,12 +7,9 @@ ghost use Rattle.schema_keys.specs.Compiling.{answers};
 ghost use Rattle.schema_compiler.specs.Gives.{script_of};
 
 use crate::compiler::setup::Compiler;
-use schema_keys::key::SchemaKey;
-use schema_reports::location::OutOfMemory;
-use schema_traits::keyword::Validate;
-use schema_traits::numbers::Edge;
-use schema_traits::resolver::Resolver;
-use schema_traits::table::{KeywordOrigin, KeywordTable, MakerReply};
+use schema_keys::SchemaKey;
+use schema_reports::OutOfMemory;
+use schema_traits::{Edge, KeywordOrigin, KeywordTable, MakerReply, Resolver, Validate};
 use serde_json::{Map, Value};
 
 impl<'p, R: Resolver, T> Compiler<'p, R, T> {

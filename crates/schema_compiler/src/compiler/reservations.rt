@@ -8,10 +8,8 @@ ghost use Rattle.schema_traits.specs.ResolverViews.{place_of};
 ghost use Rattle.schema_compiler.specs.Reserving.{is_for, with_node, with_nodes_from};
 ghost use Rattle.schema_compiler.specs.ReservedViews.{FindsPending, TellsPending, TellsReserved, node_of, reserved_by, reserved_of};
 
-use schema_reports::location::OutOfMemory;
-use schema_traits::numbers::PendingSchemaNode;
-use schema_traits::schema_place::SchemaPlace;
-use schema_traits::table::{MakerReply, PendingKind};
+use schema_reports::OutOfMemory;
+use schema_traits::{MakerReply, PendingKind, PendingSchemaNode, SchemaPlace};
 use std::alloc::Global;
 use std::marker::Model;
 

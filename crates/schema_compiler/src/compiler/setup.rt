@@ -1,10 +1,9 @@
 //! The fixed input of a compilation.
 ghost use Rattle.std.specs.Prelude.{◌≡◌};
 
-use schema_keys::context::Context;
-use schema_keys::key::SchemaKey;
-pub use schema_keys::options::CompileOptions;
-use schema_traits::resolver::Resolver;
+pub use schema_keys::CompileOptions;
+use schema_keys::{Context, SchemaKey};
+use schema_traits::Resolver;
 use std::alloc::Global;
 
 /// The fixed input of a compilation.

@@ -5,12 +5,8 @@ ghost use Rattle.schema_compiler.specs.Carried.{RefusesTarget, Targets, lacking,
 ghost use Rattle.schema_keys.specs.Refusing.{Names};
 
 use crate::compiler::setup::Compiler;
-use schema_keys::error::BuildError;
-use schema_keys::key::SchemaKey;
-use schema_keys::references::ReferenceKind;
-use schema_traits::keyword::Validate;
-use schema_traits::resolver::Resolver;
-use schema_traits::table::KeywordTable;
+use schema_keys::{BuildError, ReferenceKind, SchemaKey};
+use schema_traits::{KeywordTable, Resolver, Validate};
 
 impl<'p, R: Resolver, T> Compiler<'p, R, T> {
     // Refuses a target that requires a custom vocabulary that is not declared.

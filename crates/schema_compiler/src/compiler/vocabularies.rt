@@ -7,11 +7,9 @@ ghost use Rattle.schema_keys.specs.Alone.{NamesFirst};
 ghost use Rattle.schema_keys.specs.Refusing.{Names};
 
 use crate::compiler::setup::Compiler;
-use schema_drafts::keywords::VocabularySet;
-use schema_keys::error::BuildError;
-use schema_traits::keyword::Validate;
-use schema_traits::resolver::Resolver;
-use schema_traits::table::KeywordTable;
+use schema_drafts::VocabularySet;
+use schema_keys::BuildError;
+use schema_traits::{KeywordTable, Resolver, Validate};
 
 fn is_declared(declared: &[String], uri: &str) -> bool
     ensures declared { result ≡ list_any (bytes_eq uri.now) (map string_bytes declared.now) }

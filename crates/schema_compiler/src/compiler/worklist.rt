@@ -8,13 +8,8 @@ ghost use Rattle.schema_compiler.specs.Gives.{ComesTo, ComesToEnd, GivesWorked, 
 
 use crate::compiler::compilation::{Compilation, Progress};
 use crate::compiler::setup::Compiler;
-use schema_keys::error::BuildError;
-use schema_keys::key::SchemaKey;
-use schema_keys::values::Reading;
-use schema_traits::keyword::Validate;
-use schema_traits::numbers::SchemaNode;
-use schema_traits::resolver::Resolver;
-use schema_traits::table::KeywordTable;
+use schema_keys::{BuildError, Reading, SchemaKey};
+use schema_traits::{KeywordTable, Resolver, SchemaNode, Validate};
 use std::rc::Rc;
 
 impl<'p, R: Resolver, T> Compiler<'p, R, T> {

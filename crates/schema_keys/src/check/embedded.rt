@@ -9,11 +9,9 @@ ghost use Rattle.schema_traits.specs.ResolverViews.{IsReadAt};
 ghost use Rattle.schema_keys.specs.Readings.{read_value};
 
 use crate::check::SchemaCheck;
-use schema_drafts::keywords::Draft;
-use schema_reports::location::OutOfMemory;
-use schema_traits::meta::MetaValidators;
-use schema_traits::resolver::Resolver;
-use schema_traits::schema_place::SchemaPlace;
+use schema_drafts::Draft;
+use schema_reports::OutOfMemory;
+use schema_traits::{MetaValidators, Resolver, SchemaPlace};
 use serde_json::Value;
 
 /// An embedded resource, which is cut out of the document around it.

@@ -10,10 +10,8 @@ ghost use Rattle.schema_traits.specs.Showing.{Shows};
 
 use crate::check::SchemaCheck;
 use crate::check::embedded::Cut;
-use schema_reports::location::OutOfMemory;
-use schema_traits::meta::MetaValidators;
-use schema_traits::resolver::Resolver;
-use schema_traits::schema_place::{SchemaPlace, SchemaStep};
+use schema_reports::OutOfMemory;
+use schema_traits::{MetaValidators, Resolver, SchemaPlace, SchemaStep};
 use serde_json::{Map, Value};
 use std::rc::RcStr;
 

@@ -4,23 +4,14 @@ ghost use Rattle.schema_node.specs.RunAnswers.{UnitOfChild, UnitOfEdge, UnitOfNo
 ghost use Rattle.schema_node.specs.RunAnswers.{UnitsOfKeyword};
 
 use crate::node::turns::keyword_answer;
-use schema_node_table::node::{Entry, EntryForm, NodeForm};
-use schema_reports::evaluation::{ChildList, EvaluationNode};
-use schema_reports::location::OutOfMemory;
-use schema_reports::shared_location::SharedLocation;
-use schema_run_context::evaluation_path::EvaluationPath;
-use schema_run_context::marks::child_edge;
-use schema_run_context::validation::ValidationContext;
-use schema_run_steps::evaluation_order::{EntryUnits, UnitsInOrder};
-use schema_run_steps::guarded::GuardedPair;
-use schema_run_steps::question::{Engine, NamedKeyword, Question};
-use schema_run_steps::spots::one_below;
-use schema_run_steps::units::{
-    accepting_unit, entries_unit, refusing_unit, unasked_unit, units_of_keyword, units_of_reference,
+use schema_node_table::{Entry, EntryForm, NodeForm};
+use schema_reports::{ChildList, EvaluationNode, OutOfMemory, SharedLocation};
+use schema_run_context::{EvaluationPath, ValidationContext, child_edge};
+use schema_run_steps::{
+    Engine, EntryUnits, GuardedPair, NamedKeyword, Question, UnitsInOrder, accepting_unit,
+    entries_unit, one_below, refusing_unit, unasked_unit, units_of_keyword, units_of_reference,
 };
-use schema_traits::keyword::{Below, Validate};
-use schema_traits::matcher::Matcher;
-use schema_traits::numbers::{Edge, SchemaNode};
+use schema_traits::{Below, Edge, Matcher, SchemaNode, Validate};
 
 // Returns the unit of a node at a place. Counts the node.
 #[cycle(run)]

@@ -7,20 +7,14 @@ ghost use Rattle.schema_node.specs.RunAnswers.{ReplyOfKeyword, ReplyOfNode, Repl
 
 use crate::node::turns::keyword_answer;
 use crate::node::verdict::{verdict_edge, verdict_form, verdict_node};
-use schema_node_table::node::{Entry, EntryForm, NodeForm};
-use schema_reports::instance::InstanceStep;
-use schema_reports::location::OutOfMemory;
-use schema_run_context::marks::child_edge;
-use schema_run_context::validation::ValidationContext;
-use schema_run_steps::evaluation_place::EvaluationPlace;
-use schema_run_steps::faults::finished;
-use schema_run_steps::guarded::GuardedPair;
-use schema_run_steps::question::{Engine, NamedKeyword, Question};
-use schema_run_steps::replies::{accepted, is_settled, joined, refused, stamped_reply};
-use schema_run_steps::spots::one_below;
-use schema_traits::keyword::{Below, Mode, Reply, Validate};
-use schema_traits::matcher::Matcher;
-use schema_traits::numbers::{Edge, SchemaNode};
+use schema_node_table::{Entry, EntryForm, NodeForm};
+use schema_reports::{InstanceStep, OutOfMemory};
+use schema_run_context::{ValidationContext, child_edge};
+use schema_run_steps::{
+    Engine, EvaluationPlace, GuardedPair, NamedKeyword, Question, accepted, finished, is_settled,
+    joined, one_below, refused, stamped_reply,
+};
+use schema_traits::{Below, Edge, Matcher, Mode, Reply, SchemaNode, Validate};
 
 // Returns the reply of a node at a place: its verdict or its errors, by the mode.
 pub(crate) fn node_reply<'i, K: Validate, M: Matcher>(

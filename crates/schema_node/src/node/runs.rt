@@ -10,17 +10,11 @@ ghost use Rattle.theory_runs.specs.RunStates.{GoesOn, setting_over};
 
 use crate::node::evaluate::evaluate_node;
 use crate::node::run::node_reply;
-use schema_node_table::node::Nodes;
-use schema_reports::evaluation::EvaluationNode;
-use schema_reports::instance::{Instance, Place};
-use schema_reports::location::{Location, OutOfMemory};
-use schema_run_context::evaluation_path::EvaluationPath;
-use schema_run_context::validation::ValidationContext;
-use schema_run_steps::evaluation_place::EvaluationPlace;
-use schema_run_steps::question::{Engine, Question};
-use schema_traits::keyword::{Mode, Reply, Validate};
-use schema_traits::matcher::Matcher;
-use schema_traits::numbers::SchemaNode;
+use schema_node_table::Nodes;
+use schema_reports::{EvaluationNode, Instance, Location, OutOfMemory, Place};
+use schema_run_context::{EvaluationPath, ValidationContext};
+use schema_run_steps::{Engine, EvaluationPlace, Question};
+use schema_traits::{Matcher, Mode, Reply, SchemaNode, Validate};
 use std::alloc::Global;
 
 /// What a run begins with: an instance, its place, the path to it, and the mode.

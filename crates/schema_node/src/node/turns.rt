@@ -7,14 +7,10 @@ ghost use Rattle.schema_node.specs.RunAnswers.{AnswerOfChild, AnswerOfKeyword, T
 use crate::node::evaluate::evaluate_child;
 use crate::node::run::run_child;
 use crate::node::verdict::verdict_child;
-use schema_reports::location::OutOfMemory;
-use schema_run_context::validation::ValidationContext;
-use schema_run_steps::faults::begun;
-use schema_run_steps::matches::step_match;
-use schema_run_steps::question::{Engine, NamedKeyword, Question};
-use schema_traits::keyword::{Answer, Below, Mode, Reply, Step, Validate};
-use schema_traits::matcher::Matcher;
-use schema_traits::numbers::{Edge, SchemaNode};
+use schema_reports::OutOfMemory;
+use schema_run_context::ValidationContext;
+use schema_run_steps::{Engine, NamedKeyword, Question, begun, step_match};
+use schema_traits::{Answer, Below, Edge, Matcher, Mode, Reply, SchemaNode, Step, Validate};
 
 // Returns the answer of a keyword's run. The run begins without marks. Those of the enclosing run
 // are set aside until it has ended.

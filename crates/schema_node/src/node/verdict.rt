@@ -10,16 +10,11 @@ ghost use Rattle.schema_node.specs.RunAnswers.{EdgeIsTold, EntryIsTold, VerdictI
 
 use crate::node::verdict_asking::asked_verdict;
 use crate::node::verdict_turns::keyword_verdict;
-use schema_node_table::node::{Entry, EntryForm, NodeForm};
-use schema_reports::location::OutOfMemory;
-use schema_run_context::marks::child_edge;
-use schema_run_context::validation::ValidationContext;
-use schema_run_steps::guarded::GuardedPair;
-use schema_run_steps::question::{Engine, NamedKeyword, Question};
-use schema_run_steps::spots::one_below;
-use schema_traits::keyword::{Below, Validate};
-use schema_traits::matcher::Matcher;
-use schema_traits::numbers::{Edge, SchemaNode};
+use schema_node_table::{Entry, EntryForm, NodeForm};
+use schema_reports::OutOfMemory;
+use schema_run_context::{ValidationContext, child_edge};
+use schema_run_steps::{Engine, GuardedPair, NamedKeyword, Question, one_below};
+use schema_traits::{Below, Edge, Matcher, SchemaNode, Validate};
 
 // Returns the verdict of a node at a place. Counts the node.
 #[cycle(verdict)]

@@ -12,20 +12,13 @@ ghost use Rattle.schema_node.specs.RunAnswers.{KeywordIsTold, VerdictIsTold};
 
 use crate::node::verdict::verdict_edge;
 use crate::node::verdict_turns::keyword_verdict;
-use schema_reports::instance::Instance;
-use schema_reports::location::OutOfMemory;
-use schema_run_context::marks::child_edge;
-use schema_run_context::validation::ValidationContext;
-use schema_run_steps::matches::finished_match;
-use schema_run_steps::question::{Engine, NamedKeyword, Question};
-use schema_traits::asked::AskedQuestion;
-use schema_traits::asked::counted::CountedQuestions;
-use schema_traits::asked::members::MembersQuestions;
-use schema_traits::asked::names::NamesQuestions;
-use schema_traits::asking::Asking;
-use schema_traits::keyword::Validate;
-use schema_traits::matcher::Matcher;
-use schema_traits::numbers::{Edge, SchemaNode};
+use schema_reports::{Instance, OutOfMemory};
+use schema_run_context::{ValidationContext, child_edge};
+use schema_run_steps::{Engine, NamedKeyword, Question, finished_match};
+use schema_traits::{
+    AskedQuestion, Asking, CountedQuestions, Edge, Matcher, MembersQuestions, NamesQuestions,
+    SchemaNode, Validate,
+};
 
 // Returns the questions that a keyword asks up front, if the matcher finishes every match, or else
 // `ByTurns`.

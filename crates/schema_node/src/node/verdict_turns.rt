@@ -10,16 +10,12 @@ ghost use Rattle.schema_node.specs.Premises.{KeywordHasBegun, KeywordIsAsked};
 ghost use Rattle.schema_node.specs.RunAnswers.{KeywordIsTold, VerdictTurnsOfKeyword};
 
 use crate::node::verdict::verdict_child;
-use schema_reports::instance::Instance;
-use schema_reports::location::OutOfMemory;
-use schema_run_context::validation::ValidationContext;
-use schema_run_steps::faults::begun;
-use schema_run_steps::matches::step_match;
-use schema_run_steps::question::{Engine, NamedKeyword, Question};
-use schema_run_steps::verdict_runs::{dropped, reply_with, verdict_of};
-use schema_traits::keyword::{Answer, Mode, Step, Validate};
-use schema_traits::matcher::Matcher;
-use schema_traits::numbers::SchemaNode;
+use schema_reports::{Instance, OutOfMemory};
+use schema_run_context::ValidationContext;
+use schema_run_steps::{
+    Engine, NamedKeyword, Question, begun, dropped, reply_with, step_match, verdict_of,
+};
+use schema_traits::{Answer, Matcher, Mode, SchemaNode, Step, Validate};
 use std::alloc::Global;
 
 // Returns the verdict of a keyword by its run. The run begins without marks. Those of the enclosing

@@ -7,7 +7,7 @@ ghost use Rattle.schema_node_table.specs.NodeViews.{node_of};
 
 use crate::node::Node;
 use percent_encoding::{AsciiSet, NON_ALPHANUMERIC, ascii_set, percent_encode};
-use schema_reports::location::OutOfMemory;
+use schema_reports::OutOfMemory;
 use std::alloc::Global;
 
 // The ASCII bytes that are escaped in a URI fragment (RFC 3986, 3.5).

@@ -8,9 +8,8 @@ ghost use Rattle.schema_traits.specs.EdgeViews.{edge_of};
 ghost use Rattle.schema_node_table.specs.NodeViews.{entry_of, form_of, node_of, plan_of};
 
 use crate::node::{Entry, EntryForm, Node, NodeForm, Nodes};
-use schema_reports::location::OutOfMemory;
-use schema_traits::cloning::CloneKeyword;
-use schema_traits::numbers::Edge;
+use schema_reports::OutOfMemory;
+use schema_traits::{CloneKeyword, Edge};
 use serde_json::Value;
 use std::alloc::Global;
 

@@ -3,8 +3,8 @@ ghost use Rattle.std.specs.Prelude.{◌≡◌, string_bytes};
 ghost use Rattle.schema_drafts.specs.KeywordViews.{builtin_text};
 ghost use Rattle.schema_traits.specs.Showing.{Yields};
 
-use schema_drafts::keywords::BuiltinKeyword;
-use schema_reports::location::OutOfMemory;
+use schema_drafts::BuiltinKeyword;
+use schema_reports::OutOfMemory;
 use std::alloc::AllocError;
 use std::marker::Model;
 

@@ -14,8 +14,8 @@ ghost use Rattle.schema_node_table.specs.declared.node.Entry.{Entry};
 ghost use Rattle.schema_traits.specs.declared.numbers.Edge.{Edge};
 
 use crate::node::{Entry, EntryForm, Node, NodeForm, Nodes};
-use schema_reports::location::OutOfMemory;
-use schema_traits::numbers::{Edge, SchemaNode};
+use schema_reports::OutOfMemory;
+use schema_traits::{Edge, SchemaNode};
 use std::alloc::Global;
 
 /// The weight of a shared number, which is the greatest weight.

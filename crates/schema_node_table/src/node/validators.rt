@@ -6,8 +6,8 @@ ghost use Rattle.schema_node_table.specs.NodeViews.{form_of};
 ghost use Rattle.schema_node_table.specs.ValidatorViews.{form_asked, left_asked, plan_asked, single_asked, validator_of};
 
 use crate::node::{Entry, EntryForm, NodeForm, Nodes};
-use schema_reports::location::Location;
-use schema_traits::numbers::SchemaNode;
+use schema_reports::Location;
+use schema_traits::SchemaNode;
 
 /// A validator of a node.
 ///

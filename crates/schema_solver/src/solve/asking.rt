@@ -16,20 +16,14 @@ use crate::question::{Asked, SolverEngine, Stopped};
 use crate::solve::edges::solve_edge;
 use crate::solve::turns::solver_answer;
 use crate::told::Told;
-use schema_node_table::node::name::KeywordName;
-use schema_run_context::marks::child_edge;
-use schema_run_steps::matches::finished_match;
-use schema_run_steps::question::NamedKeyword;
-use schema_solver_state::context::SolverContext;
-use schema_traits::ascending::AscendingNames;
-use schema_traits::asked::AskedQuestion;
-use schema_traits::asked::counted::CountedQuestions;
-use schema_traits::asked::members::MembersQuestions;
-use schema_traits::asked::names::NamesQuestions;
-use schema_traits::asking::Asking;
-use schema_traits::keyword::Validate;
-use schema_traits::matcher::Matcher;
-use schema_traits::numbers::{Edge, SchemaNode};
+use schema_node_table::KeywordName;
+use schema_run_context::child_edge;
+use schema_run_steps::{NamedKeyword, finished_match};
+use schema_solver_state::SolverContext;
+use schema_traits::{
+    AscendingNames, AskedQuestion, Asking, CountedQuestions, Edge, Matcher, MembersQuestions,
+    NamesQuestions, SchemaNode, Validate,
+};
 use serde_json::{Map, Value};
 
 // Returns the verdict of a keyword by the questions that it asks up front, or else by its turns.

@@ -6,13 +6,10 @@ ghost use Rattle.schema_solver.specs.Calls.{Answers, CanAsk, PairMayBegin};
 use crate::question::{Asked, SolverEngine, Stopped};
 use crate::solve::entries::{solve_node, solve_node_apart};
 use crate::told::Told;
-use schema_run_context::marks::child_edge;
-use schema_run_steps::spots::one_below;
-use schema_solver_state::context::SolverContext;
-use schema_solver_state::pair::SolverPair;
-use schema_traits::keyword::{Below, Validate};
-use schema_traits::matcher::Matcher;
-use schema_traits::numbers::{Edge, SchemaNode};
+use schema_run_context::child_edge;
+use schema_run_steps::one_below;
+use schema_solver_state::{SolverContext, SolverPair};
+use schema_traits::{Below, Edge, Matcher, SchemaNode, Validate};
 
 // Returns the verdict of a keyword's child, here or one step below; "valid" if its request got no
 // child.

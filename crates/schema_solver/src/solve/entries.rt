@@ -9,12 +9,10 @@ use crate::question::{Asked, SolverEngine};
 use crate::solve::asking::solve_asked;
 use crate::solve::edges::solve_edge;
 use crate::told::Told;
-use schema_node_table::node::{Entry, EntryForm, NodeForm};
-use schema_reports::instance::Instance;
-use schema_solver_state::context::SolverContext;
-use schema_traits::keyword::Validate;
-use schema_traits::matcher::Matcher;
-use schema_traits::numbers::{Edge, SchemaNode};
+use schema_node_table::{Entry, EntryForm, NodeForm};
+use schema_reports::Instance;
+use schema_solver_state::SolverContext;
+use schema_traits::{Edge, Matcher, SchemaNode, Validate};
 
 // Returns the verdict of a node at a place.
 #[cycle(verdict)]

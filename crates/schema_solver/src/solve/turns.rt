@@ -7,16 +7,10 @@ ghost use Rattle.schema_solver.specs.Calls.{Answers, AnswersByTurns, BeginsRun, 
 use crate::question::{Asked, SolverEngine, Stopped};
 use crate::solve::edges::solve_child;
 use crate::told::Told;
-use schema_reports::instance::Instance;
-use schema_reports::location::OutOfMemory;
-use schema_run_steps::faults::begun;
-use schema_run_steps::matches::finished_match;
-use schema_run_steps::question::NamedKeyword;
-use schema_run_steps::verdict_runs::{dropped, reply_with, verdict_of};
-use schema_solver_state::context::SolverContext;
-use schema_traits::keyword::{Answer, Mode, Step, Validate};
-use schema_traits::matcher::Matcher;
-use schema_traits::numbers::SchemaNode;
+use schema_reports::{Instance, OutOfMemory};
+use schema_run_steps::{NamedKeyword, begun, dropped, finished_match, reply_with, verdict_of};
+use schema_solver_state::SolverContext;
+use schema_traits::{Answer, Matcher, Mode, SchemaNode, Step, Validate};
 use std::alloc::Global;
 
 // Returns the verdict of a keyword by its run. The run begins without marks; those of the run

@@ -8,7 +8,7 @@ ghost use Rattle.schema_traits.specs.AskedAtOnce.{child_at, child_here, numbers_
 ghost use Rattle.schema_traits.specs.Questions.{AsksFirst, StandsThere, question_in};
 
 use crate::asked::AskedQuestion;
-use schema_reports::instance::{Instance, InstanceStep};
+use schema_reports::{Instance, InstanceStep};
 use serde_json::Value;
 use std::marker::Model;
 

@@ -8,7 +8,7 @@ ghost use Rattle.schema_traits.specs.Questions.{AsksFirst, StandsThere, at_names
 
 use crate::ascending::AscendingNames;
 use crate::asked::AskedQuestion;
-use schema_reports::instance::{Instance, InstanceStep};
+use schema_reports::{Instance, InstanceStep};
 use serde_json::{Map, Value};
 use std::collections::btree_map::Iter;
 use std::marker::Model;

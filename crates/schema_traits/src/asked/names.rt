@@ -7,7 +7,7 @@ ghost use Rattle.schema_traits.specs.Members.{AreNamed, at_their_names};
 ghost use Rattle.schema_traits.specs.Questions.{AsksFirst, StandsThere, question_in};
 
 use crate::asked::AskedQuestion;
-use schema_reports::instance::{Instance, InstanceStep};
+use schema_reports::{Instance, InstanceStep};
 use serde_json::{Map, Value};
 use std::collections::btree_map::Iter;
 use std::marker::Model;

@@ -15,21 +15,13 @@ use crate::map::ValidatorMap;
 use crate::options::ValidationOptions;
 use crate::options::root::root_key;
 use crate::validator::{CallLimits, Validator};
-use schema_compiler::compiler::{check_vocabularies, compile_subschema};
-use schema_keys::check::validate_schema;
-use schema_keys::context::Context;
-use schema_keys::error::BuildError;
-use schema_keys::key::SchemaKey;
-use schema_keys::schemas::schemas_in;
-use schema_reports::location::OutOfMemory;
-use schema_solver::eligible::Solver;
-use schema_traits::keyword::Validate;
-use schema_traits::matcher::Matcher;
-use schema_traits::meta::MetaValidators;
-use schema_traits::numbers::SchemaNode;
-use schema_traits::resolver::Resolver;
-use schema_traits::schema_place::SchemaPath;
-use schema_traits::table::KeywordTable;
+use schema_compiler::{check_vocabularies, compile_subschema};
+use schema_keys::{BuildError, Context, SchemaKey, schemas_in, validate_schema};
+use schema_reports::OutOfMemory;
+use schema_solver::Solver;
+use schema_traits::{
+    KeywordTable, Matcher, MetaValidators, Resolver, SchemaNode, SchemaPath, Validate,
+};
 use serde_json::Value;
 use std::alloc::Global;
 

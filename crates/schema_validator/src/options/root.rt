@@ -5,12 +5,10 @@ ghost use Rattle.schema_traits.specs.Showing.{Shows};
 ghost use Rattle.schema_validator.specs.RootWords.{HasRootDraft, IsKeyOfRoot, RefusesRootKey, key_begun, root_base};
 
 use crate::options::ValidationOptions;
-use schema_drafts::keywords::Draft;
-use schema_keys::error::BuildError;
-use schema_keys::key::SchemaKey;
-use schema_reports::location::{Location, OutOfMemory};
-use schema_traits::resolver::Resolver;
-use schema_traits::schema_place::SchemaPlace;
+use schema_drafts::Draft;
+use schema_keys::{BuildError, SchemaKey};
+use schema_reports::{Location, OutOfMemory};
+use schema_traits::{Resolver, SchemaPlace};
 use serde_json::Value;
 use std::alloc::Global;
 

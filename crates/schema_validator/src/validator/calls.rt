@@ -11,14 +11,11 @@ ghost use Rattle.schema_validator.specs.Greatest.{DecidesAccepted, ErrorsAccepte
 ghost use Rattle.schema_compiled.specs.Solved.{IsDecidedWithin};
 
 use crate::validator::Validator;
-use schema_compiled::stopping::{limit_failure, limit_failure_alone};
-use schema_output::error_units::unit_of_errors;
-use schema_output::evaluation::Evaluation;
-use schema_reports::location::OutOfMemory;
-use schema_reports::reports::{ErrorIterator, ValidationError};
-use schema_run_context::work::Work;
-use schema_traits::keyword::Validate;
-use schema_traits::matcher::Matcher;
+use schema_compiled::{limit_failure, limit_failure_alone};
+use schema_output::{Evaluation, unit_of_errors};
+use schema_reports::{ErrorIterator, OutOfMemory, ValidationError};
+use schema_run_context::Work;
+use schema_traits::{Matcher, Validate};
 use serde_json::Value;
 use std::alloc::Global;
 

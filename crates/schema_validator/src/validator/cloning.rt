@@ -4,9 +4,8 @@ ghost use Rattle.schema_node_table.specs.Cloned.{shaped_nodes};
 ghost use Rattle.schema_compiled.specs.Cloned.{AnswerSame, SaySame};
 
 use crate::validator::Validator;
-use schema_reports::location::OutOfMemory;
-use schema_traits::cloning::CloneKeyword;
-use schema_traits::matcher::Matcher;
+use schema_reports::OutOfMemory;
+use schema_traits::{CloneKeyword, Matcher};
 use std::alloc::Global;
 
 impl<K: CloneKeyword, M: Matcher> Validator<K, M> {

@@ -7,8 +7,8 @@ ghost use Rattle.standard_basics.specs.Shapes.{shape_of};
 use crate::counts::CountKind;
 use crate::keyword::BasicKeyword;
 use crate::type_names::{type_named, types_of};
-use keyword_makers::members::push_text;
-use schema_reports::location::OutOfMemory;
+use keyword_makers::push_text;
+use schema_reports::OutOfMemory;
 use serde_json::Value;
 use std::alloc::Global;
 

@@ -7,9 +7,8 @@ ghost use Rattle.keyword_authoring.specs.Items.{count_in};
 ghost use Rattle.standard_basics.specs.Makers.{has_prefix, is_older_list, items_before};
 ghost use Rattle.schema_traits.specs.Readings.{fields};
 
-use keyword_makers::lists::list_length;
-use keyword_makers::paths::value_in;
-use schema_drafts::keywords::Draft;
+use keyword_makers::{list_length, value_in};
+use schema_drafts::Draft;
 use serde_json::{Map, Value};
 
 /// Returns whether `items` continues after `prefixItems` in this draft.

@@ -7,7 +7,7 @@ use Rattle.schema_drafts.specs.KeywordViews.{draft_of}
 use Rattle.standard_subschemas.specs.SubschemaRules.{subschemas}
 use Rattle.standard_subschemas.specs.FoundSchemas.{found_at}
 use Rattle.standard_subschemas.specs.FoundViews.{found_of, path_of}
-use Rattle.standard_subschemas.specs.declared.subschemas.FoundSchema.{FoundSchema}
+use Rattle.standard_subschemas.specs.declared.below.FoundSchema.{FoundSchema}
 use Rattle.standard_resolver.specs.ResourceSpeaking.{kept_if, speaks}
 use Rattle.standard_resolver.specs.DocumentViews.{visited_of}
 use Rattle.standard_resolver.proofs.Walks.{adds_nothing, finished, found_lower, from, goes_on, leaves, next_found, one_back, passed}

@@ -6,7 +6,7 @@ use Rattle.serde_json.specs.View.{view}
 use Rattle.theory_definitions.specs.Instance.{Place}
 use Rattle.schema_drafts.specs.KeywordViews.{draft_of}
 use Rattle.standard_subschemas.specs.FoundViews.{path_of}
-use Rattle.standard_subschemas.specs.declared.subschemas.FoundSchema.{FoundSchema}
+use Rattle.standard_subschemas.specs.declared.below.FoundSchema.{FoundSchema}
 use Rattle.standard_resolver.specs.DocumentResources.{visited_below}
 use Rattle.standard_resolver.specs.ResourceSpeaking.{speaking}
 use Rattle.standard_resolver.specs.DocumentViews.{visited_of}

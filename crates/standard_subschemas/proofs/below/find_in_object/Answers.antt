@@ -7,7 +7,7 @@ use Rattle.theory_definitions.specs.Instance.{Text, to_member}
 use Rattle.standard_subschemas.specs.FoundSchemas.{schema_if}
 use Rattle.standard_subschemas.specs.FoundViews.{found_of}
 use Rattle.standard_subschemas.proofs.Finding.{members_end, members_go, members_start, object_is, read_is}
-use Rattle.standard_subschemas.proofs.subschemas.find_in_object.Goals as goal
+use Rattle.standard_subschemas.proofs.below.find_in_object.Goals as goal
 
 pub loop-name-init : goal.loop-name-init
 loop-name-init c =

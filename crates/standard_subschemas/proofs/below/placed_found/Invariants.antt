@@ -1,7 +1,7 @@
 use Rattle.std.proofs.Common.{◌≡◌, ◌++◌, drop, map}
 use Rattle.schema_traits.specs.ResolverViews.{place_of, placed_of}
 use Rattle.standard_subschemas.specs.FoundViews.{found_of, placed_at}
-use Rattle.standard_subschemas.proofs.subschemas.placed_found.Given as goal
+use Rattle.standard_subschemas.proofs.below.placed_found.Given as goal
 
 abbrev pub invariant-loop-one : goal.invariant-loop-one
 invariant-loop-one l = map (placed_at (place_of l.place)) (map found_of l.found)

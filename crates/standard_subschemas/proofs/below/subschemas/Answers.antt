@@ -8,7 +8,7 @@ use Rattle.schema_drafts.specs.KeywordViews.{draft_of}
 use Rattle.standard_subschemas.specs.SubschemaRules.{subschemas}
 use Rattle.standard_subschemas.specs.FoundViews.{path_of}
 use Rattle.standard_subschemas.proofs.Finding.{paths_found}
-use Rattle.standard_subschemas.proofs.subschemas.subschemas.Goals as goal
+use Rattle.standard_subschemas.proofs.below.subschemas.Goals as goal
 
 pub returns : goal.returns
 returns c =

@@ -8,7 +8,7 @@ use Rattle.standard_subschemas.specs.SubschemaRules.{subschemas}
 use Rattle.standard_subschemas.specs.FoundSchemas.{found_at}
 use Rattle.standard_subschemas.specs.FoundViews.{found_of}
 use Rattle.standard_subschemas.proofs.NoneNamed.{none_named}
-use Rattle.standard_subschemas.proofs.subschemas.subschemas_found.Goals as goal
+use Rattle.standard_subschemas.proofs.below.subschemas_found.Goals as goal
 
 pub returns-else-any_names_schemas : goal.returns-else-any_names_schemas
 returns-else-any_names_schemas c =

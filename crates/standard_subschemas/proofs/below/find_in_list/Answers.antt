@@ -5,7 +5,7 @@ use Rattle.serde_json.specs.View.{items_view, members_view, view}
 use Rattle.serde_json.specs.declared.value.Value.{Value}
 use Rattle.standard_subschemas.specs.FoundViews.{found_of}
 use Rattle.standard_subschemas.proofs.Finding.{array_is, items_end, items_go, items_start, read_is}
-use Rattle.standard_subschemas.proofs.subschemas.find_in_list.Goals as goal
+use Rattle.standard_subschemas.proofs.below.find_in_list.Goals as goal
 
 pub loop-index-init : goal.loop-index-init
 loop-index-init c =

@@ -1,4 +1,4 @@
-use Rattle.theory_fixed_points.proofs.cycle_rows.worked_rows.Goals as goal
+use Rattle.theory_fixed_points.proofs.cycle_rows.worked_cycle_rows.Goals as goal
 use Rattle.theory_fixed_points.proofs.Computed as rows
 
 pub returns : goal.returns

@@ -2,7 +2,7 @@ use Rattle.std.proofs.Common.{◌≡◌, ◌++◌, drop, map}
 use Rattle.theory_definitions.specs.Drafts.{at_path}
 use Rattle.schema_traits.specs.ResolverViews.{place_of}
 use Rattle.standard_subschemas.specs.FoundViews.{path_of}
-use Rattle.standard_subschemas.proofs.subschemas.places_found.Given as goal
+use Rattle.standard_subschemas.proofs.below.places_found.Given as goal
 
 abbrev pub invariant-loop-one : goal.invariant-loop-one
 invariant-loop-one l = map (at_path (place_of l.place)) (map path_of l.found)

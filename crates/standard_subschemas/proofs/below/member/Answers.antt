@@ -1,7 +1,7 @@
 use Rattle.std.proofs.Common.{◌∙◌, ap, option_map}
 use Rattle.serde_json.specs.View.{view}
 use Rattle.serde_json.proofs.Views.{view-lookup, view_of_ref}
-use Rattle.standard_subschemas.proofs.subschemas.member.Goals as goal
+use Rattle.standard_subschemas.proofs.below.member.Goals as goal
 
 pub returns : goal.returns
 returns c = record {

@@ -5,7 +5,7 @@ use Rattle.serde_json.specs.Find.{get}
 use Rattle.serde_json.specs.View.{members_view}
 use Rattle.standard_subschemas.specs.FoundSchemas.{found_at}
 use Rattle.standard_subschemas.specs.FoundViews.{below, found_of}
-use Rattle.standard_subschemas.proofs.subschemas.find_under_each.Given as goal
+use Rattle.standard_subschemas.proofs.below.find_under_each.Given as goal
 
 abbrev pub invariant-loop-keyword : goal.invariant-loop-keyword
 invariant-loop-keyword l =

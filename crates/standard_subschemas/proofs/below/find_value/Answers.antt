@@ -4,7 +4,7 @@ use Rattle.serde_json.specs.Data.{object}
 use Rattle.serde_json.specs.View.{members_view, view}
 use Rattle.standard_subschemas.specs.FoundViews.{found_of}
 use Rattle.standard_subschemas.proofs.Finding.{read_is, value_found}
-use Rattle.standard_subschemas.proofs.subschemas.find_value.Goals as goal
+use Rattle.standard_subschemas.proofs.below.find_value.Goals as goal
 
 pub returns : goal.returns
 returns c =
