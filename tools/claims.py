@@ -5,7 +5,8 @@ or [--contracts FUNCTION..] or [--check]
 For each crate of crates.txt (or for those that are named) it prints each public function with the names of its clauses, each trait with
 those of its functions and its laws, and each type that keeps a trait of the repository. A name after `asks` is a condition on the caller.
 A law is a member of a trait that an author of an `impl` has to prove: those ghost members that stand after the trait's functions, and all of
-a trait that has none. A function is public where every module above it is, or where a public module hands it on.
+a trait that has none. A function, a type or a trait is public where the root of its crate declares it or lists it (`pub use module::Name`). The
+modules are private: they stand before a name here so that it is found in the sources.
 
 --words  the first sentence of each function's own words beside it
 --all    functions that only their crate sees too
@@ -25,32 +26,35 @@ from pathlib import Path
 
 ROOT = Path(__file__).resolve().parent.parent
 
-# of what docs/CLAIMS.md speaks: each public function, and each trait, of these crates and modules
+# of what docs/CLAIMS.md speaks: each public function and each trait of these crates, or these items of a crate
 SCOPE = (
     "schema_engine",
     "schema_validator",
-    "schema_compiled::stopping",
-    "schema_traits::cloning",
-    "schema_traits::keyword::Validate",
-    "schema_traits::matcher",
-    "schema_traits::meta",
-    "schema_traits::resolver",
-    "schema_traits::table",
-    "schema_output::evaluation",
-    "schema_keys::check::validate_schema",
-    "schema_keys::error",
-    "standard_resolver::resolver::DocumentResolver",
-    "meta_checker",
-    "first_errors",
+    "schema_compiled::limit_failure",
+    "schema_compiled::limit_failure_alone",
+    "schema_traits::CloneKeyword",
+    "schema_traits::KeywordTable",
+    "schema_traits::Matcher",
+    "schema_traits::MetaValidators",
+    "schema_traits::Resolver",
+    "schema_traits::Validate",
+    "schema_output::Evaluation",
+    "schema_keys::BuildError",
+    "schema_keys::validate_schema",
+    "standard_resolver::DocumentResolver",
+    "meta_checker::Checker",
+    "meta_checker::CheckerMaker",
+    "meta_checker::DraftCheckers",
+    "meta_checker::first_errors_are_told",
     "meta_schemas",
-    "regex_matcher::matcher",
-    "regex_matcher::patterns",
-    "regex_matcher::reading",
-    "standard_keywords::table",
-    "standard_meta::documents",
-    "standard_meta::meta",
+    "regex_matcher::Patterns",
+    "regex_matcher::RegexMatcher",
+    "regex_matcher::is_readable",
+    "standard_keywords::StandardTable",
+    "standard_meta::MetaDocuments",
+    "standard_meta::StandardMeta",
     "jsonschema",
-    "text_formats::formats",
+    "text_formats::Format",
 )
 
 
@@ -64,6 +68,10 @@ class Item:
         self.path, self.kind, self.said, self.asked = path, kind, said, asked
         self.words, self.public, self.trait, self.signature = words, public, trait, signature
         self.clauses, self.asks = [name for name, _ in said], [name for name, _ in asked]
+
+    def owner(self):
+        """The path of what the root lists for it: its own, or its trait's."""
+        return self.path if self.kind == "fn" else self.path.rsplit("::", 1)[0]
 
     def short(self):
         """The path without the modules: a type and a name, or a name."""
@@ -143,6 +151,15 @@ def signature_of(said, name):
     return re.sub(r",\s*(?=[)>])", "", re.sub(r"(?<=[(<])\s+", "", rest))
 
 
+def used_names(used):
+    """What a `use` lists: each name with the parts of its path."""
+    lead, braced, rest = used.partition("{")
+    for one in [each.strip() for each in rest.rstrip("} ").split(",")] if braced else [""]:
+        if one or not braced:
+            path, _, other = f"{lead.strip()}{one}".partition(" as ")
+            yield other or path.split("::")[-1], path.split("::")
+
+
 def is_public(head):
     return re.search(r"\bpub\s", head) is not None and "pub(" not in head
 
@@ -151,35 +168,43 @@ class Crate:
     """The functions, traits and kept traits of a crate."""
 
     def __init__(self, name):
-        self.name, self.items, self.keeps, self.handed, self.types = name, [], [], set(), {}
+        self.name, self.items, self.keeps, self.handed, self.declared = name, [], [], {}, set()
         self.folder = ROOT / "crates" / name / "src"
         root = next((self.folder / f for f in ("lib.rt", "main.rt") if (self.folder / f).is_file()), None)
         if root:
-            self.read(root, [], True, self.folder)
+            self.read(root, [])
+        self.offered = self.listed()
+        names = {path.split("::")[-1] for path in self.offered}
         for item in self.items:
-            self.settle(item)
+            # a method may stand in another module than its type
+            listed = item.path.split("::")[-2] in names if item.kind == "method" else item.owner() in self.offered
+            item.public = item.public and listed
 
-    def settle(self, item):
-        """Makes public what a public module hands on, and what stands in an `impl` of a public type."""
-        owner = item.path.split("::")[-2] if "::" in item.path else ""
-        if item.kind == "fn" and item.public is None:
-            item.public = item.path.split("::")[-1] in self.handed
-        if item.kind == "method":
-            item.public = item.public and (self.types.get(owner, True) or owner in self.handed)
+    def listed(self):
+        """The paths of what the root offers: what it declares, and what it lists, followed to where that is declared."""
+        found = {path for path in self.declared if "::" not in path}
+        for path, source in self.handed.items():
+            while "::" not in path and source in self.handed:
+                source = self.handed[source]
+            if "::" not in path:
+                found.add(source)
+        return found
 
-    def read(self, file, modules, public, folder):
+    def read(self, file, modules):
         text = file.read_text(encoding="utf-8")
         code = blanked(text)
-        for handed in re.findall(r"pub use ([^;]*);", code):
-            if public:
-                self.handed.update(re.findall(r"\w+", handed.split("::", 1)[-1]))
-        self.walk(text, code, 0, len(code), modules, public, None)
-        for head, name in re.findall(r"^[ ]*((?:pub(?:\([^)]*\))? )?)mod (\w+);", code, re.M):
+        for used in re.findall(r"\bpub use ([^;]*);", code):
+            for name, source in used_names(re.sub(r"\s+", " ", used)):
+                source = source[1:] if source[0] in ("crate", "self") else [*modules, *source]
+                self.handed["::".join([*modules, name])] = "::".join(source)
+        self.walk(text, code, 0, len(code), modules, None)
+        for name in re.findall(r"^[ ]*(?:pub(?:\([^)]*\))? )?mod (\w+);", code, re.M):
             below = file.parent if file.name in ("lib.rt", "main.rt") else file.with_suffix("")
-            self.read(below / f"{name}.rt", [*modules, name], public and head.strip() == "pub", folder)
+            self.read(below / f"{name}.rt", [*modules, name])
 
-    def walk(self, text, code, start, end, modules, public, owner):
-        """The items between two places. `owner` is the kind, the name and the publicity of the `impl` or the trait around them."""
+    def walk(self, text, code, start, end, modules, owner):
+        """The items between two places. `owner` is the kind and the name of the `impl` or the trait around them, and what trait the `impl` is
+        of, or whether the trait is declared public."""
         head, place, clauses, asks, has_function = start, start, [], [], False
         while place < end:
             letter = code[place]
@@ -195,21 +220,22 @@ class Crate:
                 if re.search(r"\bghost\b[^;]*[:=]\s*$", said):
                     self.note_law(text, code, head, said, modules, owner, has_function)
                 elif re.search(r"\bfn\s+\w+", said):
-                    self.note(text, code, head, said, modules, public, owner, clauses, asks)
+                    self.note(text, code, head, said, modules, owner, clauses, asks)
                     has_function = True
                 elif re.search(r"\bmod\s+\w+\s*$", said):
                     name = re.search(r"\bmod\s+(\w+)", said)[1]
-                    self.walk(text, code, place + 1, close, [*modules, name], public and is_public(said), None)
+                    self.walk(text, code, place + 1, close, [*modules, name], None)
                 elif re.search(r"\btrait\s+\w+", said):
                     name = re.search(r"\btrait\s+(\w+)", said)[1]
-                    self.walk(text, code, place + 1, close, modules, public, ("trait", name, public and is_public(said)))
+                    self.note_name(said, name, modules)
+                    self.walk(text, code, place + 1, close, modules, ("trait", name, is_public(said)))
                 elif re.search(r"\bimpl\b", said) and not re.search(r"\b(fn|use)\b", said):
                     trait, kind = impl_of(said)
                     if trait:
                         self.keeps.append(("::".join([*modules, kind]), trait))
-                    self.walk(text, code, place + 1, close, modules, public, ("impl", kind, trait))
-                elif re.search(r"\b(struct|enum|union)\s+\w+", said):
-                    self.note_type(said, public)
+                    self.walk(text, code, place + 1, close, modules, ("impl", kind, trait))
+                elif kept := re.search(r"\b(?:struct|enum|union)\s+(\w+)", said):
+                    self.note_name(said, kept[1], modules)
                 elif re.search(r"\buse\b", said):
                     place = close + 1
                     continue
@@ -217,25 +243,25 @@ class Crate:
                 continue
             if letter == ";" and said.count("[") <= said.count("]"):
                 if owner and owner[0] == "trait" and re.search(r"\bfn\s+\w+", said):
-                    self.note(text, code, head, said, modules, public, owner, clauses, asks)
+                    self.note(text, code, head, said, modules, owner, clauses, asks)
                     has_function = True
-                elif re.search(r"\b(struct|type)\s+\w+", said):
-                    self.note_type(said, public)
+                elif kept := re.search(r"\b(?:struct|type)\s+(\w+)", said):
+                    self.note_name(said, kept[1], modules)
                 head, clauses, asks = place + 1, [], []
             place += 1
 
-    def note_type(self, said, public):
-        name = re.search(r"\b(?:struct|enum|union|type)\s+(\w+)", said)[1]
-        self.types[name] = public and is_public(said)
+    def note_name(self, said, name, modules):
+        if is_public(said):
+            self.declared.add("::".join([*modules, name]))
 
-    def note(self, text, code, head, said, modules, public, owner, clauses, asks):
+    def note(self, text, code, head, said, modules, owner, clauses, asks):
         name = re.search(r"\bfn\s+(\w+)", said)[1]
         stands = re.compile(r"\bfn\s+%s\b" % name).search(code, head).start()
         words = words_above(text, text.rfind("\n", 0, stands) + 1)
         signature = signature_of(said, name)
         if owner is None:
-            seen = None if is_public(said) and not public else is_public(said) and public
-            self.items.append(Item("::".join([*modules, name]), "fn", clauses, asks, words, seen, None, signature))
+            self.note_name(said, name, modules)
+            self.items.append(Item("::".join([*modules, name]), "fn", clauses, asks, words, is_public(said), None, signature))
         elif owner[0] == "trait":
             path = "::".join([*modules, owner[1], name])
             self.items.append(Item(path, "trait fn", clauses, asks, words, owner[2], owner[1], signature))
@@ -317,13 +343,14 @@ def wanted_claims():
     for name in dict.fromkeys(part.split("::")[0] for part in SCOPE):
         crate = Crate(name)
         for item in crate.items:
-            if not item.public or not in_scope(f"{name}::{item.path}"):
+            if not item.public or not in_scope(f"{name}::{item.short()}"):
                 continue
             if item.kind in ("fn", "method", "trait fn"):
                 found[item.short()] = set(item.clauses) | {f"asks {a}" for a in item.asks}
         for trait, laws in crate.laws().items():
-            if laws[0].public and in_scope(f"{name}::{trait}"):
-                found[trait.split("::")[-1]] = {law.path.split("::")[-1] for law in laws}
+            short = trait.split("::")[-1]
+            if laws[0].public and in_scope(f"{name}::{short}"):
+                found[short] = {law.path.split("::")[-1] for law in laws}
     return found
 
 
@@ -358,7 +385,7 @@ def contracts():
     found = {}
     for name in dict.fromkeys(part.split("::")[0] for part in SCOPE):
         for item in Crate(name).items:
-            if item.public and item.kind in ("fn", "method", "trait fn") and in_scope(f"{name}::{item.path}"):
+            if item.public and item.kind in ("fn", "method", "trait fn") and in_scope(f"{name}::{item.short()}"):
                 found[item.short()] = item.contract()
     return found
 
