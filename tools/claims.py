@@ -171,10 +171,10 @@ class Crate:
         if root:
             self.read(root, [])
         self.offered = self.listed()
-        names = {path.split("::")[-1] for path in self.offered}
+        self.names = {path.split("::")[-1] for path in self.offered}
         for item in self.items:
             # a method may stand in another module than its type
-            listed = item.path.split("::")[-2] in names if item.kind == "method" else item.owner() in self.offered
+            listed = item.path.split("::")[-2] in self.names if item.kind == "method" else item.owner() in self.offered
             item.public = item.public and listed
 
     def listed(self):

@@ -3,16 +3,19 @@
 
 README.md has at most 110 lines, each other document (docs/*.md, crates/*/CALLING.md) at most 250, and no cell of a table more than 160
 characters. Each name in backticks that has the form of code is a word of the sources, of the tests' data or of the tools; each file that is
-named is there, and each path that begins with a crate of the repository goes on to a module, a function or a type of it. How many rows and
-edits there are is as it is said. Quoted files are compared by tools/quotes.py, and what is said of clauses by tools/claims.py --check.
+named is there, and what a path that begins with a crate of the repository goes on to is a name that the crate's root lists; so is what a whole
+program uses of a crate. How many rows and edits there are is as it is said. Quoted files are compared by tools/quotes.py, and what is said of
+clauses by tools/claims.py --check.
 Prints a line for each fault; ends with 1 where there is one.
 """
 
+import functools
 import re
 import subprocess
 import sys
 from pathlib import Path
 
+import claims
 import quotes
 
 ROOT = Path(__file__).resolve().parent.parent
@@ -86,13 +89,30 @@ def path_fault(path, names, words):
     unknown = [part for part in parts if part not in words and part not in ELSEWHERE and part not in names]
     if unknown:
         return f"`{path}`: no file has the name {unknown[0]}"
-    if parts[0] in names and len(parts) > 1:
-        folder = ROOT / "crates" / parts[0] / "src"
-        known = "\n".join(file.read_text(encoding="utf-8") for file in folder.rglob("*.rt")) + " ".join(f.stem for f in folder.rglob("*.rt"))
-        for part in parts[1:]:
-            if not re.search(rf"\b{part}\b", known):
-                return f"`{path}`: the crate {parts[0]} has no {part}"
+    return unlisted(parts, names)
+
+
+@functools.cache
+def listed(crate):
+    """The names that a crate's root lists."""
+    return claims.Crate(crate).names
+
+
+def unlisted(parts, names):
+    """What is wrong with a path that begins with a crate of the repository, in words, or None."""
+    if len(parts) > 1 and parts[0] in names and parts[1] not in listed(parts[0]):
+        return f"`{'::'.join(parts)}`: the root of {parts[0]} lists no {parts[1]}"
     return None
+
+
+def use_faults(text, names):
+    """What whole programs use of a crate of the repository that its root does not list, with the lines."""
+    for program in re.finditer(r"^```rust whole program\n(.*?)^```", text, re.M | re.S):
+        for used in re.finditer(r"^use ([^;]*);", program[1], re.M):
+            number = text.count("\n", 0, program.start(1) + used.start()) + 1
+            for _, parts in claims.used_names(" ".join(used[1].split())):
+                if fault := unlisted(parts, names):
+                    yield number, fault
 
 
 def file_faults(line):
@@ -141,6 +161,7 @@ def main():
         shown, lines = document.relative_to(ROOT), len(text.splitlines())
         most = README_LINES if document.name == "README.md" else PAGE_LINES
         found = [(0, f"{lines} lines, more than {most}")] if lines > most else []
+        found += use_faults(text, names)
         for number, line in prose(text):
             faults = [*cell_faults(line), *file_faults(line), *definition_faults(line, definitions), *link_faults(document, line)]
             faults += [fault for path in code_names(line) if (fault := path_fault(path, names, words))]
