@@ -23,9 +23,9 @@ gate_of g = record { condition = g.condition; patterns = map string_bytes g.patt
 
 -- the move, given the members that are left and the names that the error shows
 abbrev pub move_of : Move → List Text → List Text → moves.Move
-move_of move.Halts names left = moves.halts left
-move_of (move.Tests j l p k) names left = moves.tests names left j l p.now k.now
-move_of (move.Asks j child k) names left = moves.asks names left j (at_member child k.now)
+move_of move.Halt names left = moves.halts left
+move_of (move.Test j l p k) names left = moves.tests names left j l p.now k.now
+move_of (move.Ask j child k) names left = moves.asks names left j (at_member child k.now)
 
 -- the move, if one is made, and else what follows
 abbrev pub moved_by : Option Move → GateRun → (List Text → moves.Move) → moves.Move

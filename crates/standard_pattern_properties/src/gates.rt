@@ -32,13 +32,15 @@ pub struct Gate<'s> {
 
 /// The stage of a run.
 ///
-/// A run is before its first turn, after the match of a pattern of a gate, after the evaluation of
-/// a gate's child, or at its end. Gates and patterns are given by their numbers.
+/// Gates and patterns are given by their numbers.
 #[derive(Clone, Copy)]
 pub enum GateStage {
+    /// Before the first turn.
     Begun,
-    Tested(usize, usize),
-    Asked(usize),
+    /// After the match of a pattern of a gate.
+    Tested { gate: usize, pattern_index: usize },
+    /// After the evaluation of a gate's child.
+    Asked { gate: usize },
     Ended,
 }
 
@@ -56,13 +58,24 @@ pub struct GateRun {
 
 /// The outcome of a turn.
 ///
-/// The run ends, or asks whether a pattern of a gate matches the current member's name, or
-/// evaluates a gate's child at the current member. Gates and patterns are given by their numbers.
+/// Gates and patterns are given by their numbers.
 #[derive(Clone, Copy)]
 pub enum Move<'s> {
-    Halts,
-    Tests(usize, usize, &'s str, &'s str),
-    Asks(usize, usize, &'s str),
+    /// Ends the run.
+    Halt,
+    /// Asks whether a pattern of a gate matches the current member's name.
+    Test {
+        gate: usize,
+        pattern_index: usize,
+        pattern: &'s str,
+        name: &'s str,
+    },
+    /// Evaluates a gate's child at the current member.
+    Ask {
+        gate: usize,
+        child: usize,
+        name: &'s str,
+    },
 }
 
 /// Returns whether a gate is open, given whether one of its patterns matches.
@@ -109,7 +122,7 @@ pub fn take_asked<'i>(
     ensures borrows { Borrows reply.entry answer.old answer.new result }
 {
     match stage {
-        GateStage::Asked(_) => take(alloc, reply, answer),
+        GateStage::Asked { .. } => take(alloc, reply, answer),
         _ => {
             drop(reply);
             Ok(())

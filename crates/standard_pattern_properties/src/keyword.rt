@@ -147,12 +147,16 @@ impl GatedKeyword {
             GatedKeyword::NoAdditionalProperties(_) => {
                 run.left.push(alloc, name)?;
                 if run.mode == Mode::Verdict {
-                    Ok(Some(Move::Halts))
+                    Ok(Some(Move::Halt))
                 } else {
                     Ok(None)
                 }
             }
-            _ => Ok(Some(Move::Asks(number, gate.child, name))),
+            _ => Ok(Some(Move::Ask {
+                gate: number,
+                child: gate.child,
+                name,
+            })),
         }
     }
 
@@ -196,7 +200,12 @@ impl GatedKeyword {
     {
         if place < gate.patterns.len() {
             let pattern = gate.patterns[place].as_str();
-            return Ok(Some(Move::Tests(number, place, pattern, name)));
+            return Ok(Some(Move::Test {
+                gate: number,
+                pattern_index: place,
+                pattern,
+                name,
+            }));
         }
         self.settle(alloc, run, name, number, gate, false)
     }
@@ -246,7 +255,7 @@ impl GatedKeyword {
             run.names.advance();
             number = 0;
         }
-        Ok(Move::Halts)
+        Ok(Move::Halt)
     }
 
     /// Looks at the members that are left, from gate `number` on.
@@ -345,17 +354,18 @@ impl GatedKeyword {
     {
         match run.stage {
             GateStage::Begun => self.seek(alloc, run, instance, 0),
-            GateStage::Tested(number, place) => {
-                self.after_match(alloc, run, instance, number, place, won)
-            }
-            GateStage::Asked(number) => {
+            GateStage::Tested {
+                gate,
+                pattern_index,
+            } => self.after_match(alloc, run, instance, gate, pattern_index, won),
+            GateStage::Asked { gate } => {
                 if onward {
-                    self.go_on(alloc, run, instance, self.next_gate(number))
+                    self.go_on(alloc, run, instance, self.next_gate(gate))
                 } else {
-                    Ok(Move::Halts)
+                    Ok(Move::Halt)
                 }
             }
-            GateStage::Ended => Ok(Move::Halts),
+            GateStage::Ended => Ok(Move::Halt),
         }
     }
 
@@ -406,17 +416,25 @@ impl GatedKeyword {
         ensures borrows { Retains answer.old answer.new result }
     {
         match made {
-            Move::Halts => {
+            Move::Halt => {
                 self.tell(alloc, run.mode, run.left.as_slice(), answer)?;
                 run.end(alloc);
                 Ok(Step::Done)
             }
-            Move::Tests(number, place, pattern, name) => {
-                run.stage = GateStage::Tested(number, place);
+            Move::Test {
+                gate,
+                pattern_index,
+                pattern,
+                name,
+            } => {
+                run.stage = GateStage::Tested {
+                    gate,
+                    pattern_index,
+                };
                 Ok(ask_match(pattern, name, run.mode))
             }
-            Move::Asks(number, child, name) => {
-                run.stage = GateStage::Asked(number);
+            Move::Ask { gate, child, name } => {
+                run.stage = GateStage::Asked { gate };
                 Ok(Step::Ask(child, Below::Member(name), run.mode))
             }
         }
