@@ -1,4 +1,4 @@
--- The tables that are joined by routes do what the standard's table is said to do.
+-- The tables that are joined by routes have the scripts of the standard's table.
 use Rattle.std.proofs.Common.{◌≡◌, ◌∙◌, ap, Bool, None, Option, Some, false, refl, true}
 use Rattle.std.specs.Prelude.{if◌then◌else◌}
 use Rattle.serde_json.specs.Data.{Data, Members}
@@ -28,12 +28,12 @@ use Rattle.standard_keywords.specs.Treatments.{refusal_text, treated}
 use Rattle.standard_keywords.specs.declared.treatment.Treatment.{Treatment}
 use Rattle.standard_keywords.specs.declared.treatment.Treatment.TheVariants.{Applied, Asserted, Basic, Formatted, Gated, Refused, Silent}
 
--- what the assertions' side makes of the member of a name
+-- the script of the table of assertions and refusals for a member
 abbrev found_by : Treatment → Draft → Members → Text → Option Data → Script Assertion
 found_by t draft object name None = then_end nothing
 found_by t draft object name (Some d) = script_here object name d (made_by t draft object name d)
 
--- what becomes of a keyword, where the value of the member is known, and what the other tables make
+-- how a keyword is treated, given the member's value and the scripts of the other tables
 abbrev done_by : Treatment → Draft → Members → Text → Option Data → Script StandardApplicator → Script GatedKeyword → Script FormatKeyword → Script BasicShape → Script Shape
 done_by Asserted draft object name o applied gated formatted basic = script_as First (script_found assertions.made draft object name o)
 done_by Applied draft object name o applied gated formatted basic = script_as Second (script_as First applied)
@@ -43,7 +43,7 @@ done_by Formatted draft object name o applied gated formatted basic = script_as 
 done_by Silent draft object name o applied gated formatted basic = then_end nothing
 done_by Refused draft object name o applied gated formatted basic = refused_at name (refusal_text name) o
 
--- the tables in turn, as the routes lead
+-- the tables in turn, in the order of the routes
 abbrev in_turn : Treatment → Script Assertion → Script StandardApplicator → Script GatedKeyword → Script FormatKeyword → Script BasicShape → Script Shape
 in_turn t asserted applied gated formatted basic =
     if leads_by t then script_as First asserted
@@ -63,7 +63,7 @@ same_by Silent draft object name (Some d) applied gated formatted basic = refl
 same_by Refused draft object name None applied gated formatted basic = refl
 same_by Refused draft object name (Some d) applied gated formatted basic = refl
 
--- the assertions' side makes just that
+-- the table of assertions and refusals has exactly that script
 found_made : (draft : Draft) (object : Members) (name : Text) (o : Option Data) → script_found made draft object name o ≡ found_by (treated draft object name) draft object name o
 found_made draft object name None = refl
 found_made draft object name (Some d) = refl
@@ -104,7 +104,7 @@ same_script t false name object draft vocabularies formats =
     ∙ (same_by (treated draft object name) draft object name (get_member name object) applied gated formatted basic
     ∙ done_standard (treated draft object name) draft object name vocabularies formats)
 
--- the refusal that the assertions' side makes is the one that is meant
+-- the refusal of the table of assertions and refusals is the one that is defined
 pub refused_waits : (name text : Text) (o : Option Data)
     → waiting_as First (begun (refused_at {K = Assertion} name text o)) ≡ begun (refused_at {K = Shape} name text o)
 refused_waits name text None = refl

@@ -1,4 +1,4 @@
--- What becomes of some names in some drafts, worked out.
+-- How some keywords are treated in some drafts, worked out.
 use Rattle.std.proofs.Common.{◌≡◌, codes, refl}
 use Rattle.serde_json.specs.Data.{Members, array, item, member, no_items, no_members, object}
 use Rattle.theory_definitions.specs.Drafts.{draft_2019_09, draft_2020_12, draft_4, draft_7}

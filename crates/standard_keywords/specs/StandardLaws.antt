@@ -1,4 +1,4 @@
--- The makers of the standard's table make rightly.
+-- The makers of the standard's table keep the law of makers.
 use Rattle.std.specs.Prelude.{Bool, List, None, Option, Some, [], false, refl, true, ◌≡◌}
 use Rattle.serde_json.specs.Data.{Data, Members}
 use Rattle.serde_json.specs.Find.{get_member}
@@ -47,7 +47,7 @@ module _ (absorbed : Assertion → List Text) (none : (m : Assertion) → [] ≡
       → IsRightHere absorbed shows_no_fraction object (made draft object name d)
   made_right draft object name d found = right_by (treated draft object name) draft object name d found
 
--- what the makers of a table do
+-- the scripts of the makers of a table
 abbrev EachRightly : {K : Type 0} → (K → List Text) → (K → Bool) → (Bool → Text → Members → Draft → Vocabularies → Bool → Script K) → Type 0
 EachRightly absorbed is_whole script = (own : Bool) (name : Text) (object : Members) (draft : Draft) (vocabularies : Vocabularies) (formats : Bool)
     → MakesRightly absorbed is_whole object (script own name object draft vocabularies formats)

@@ -1,5 +1,6 @@
--- What the makers of the standard's table ask for and make: what those of one of its five tables do, or nothing, or a refusal by name, as each keyword is treated; before that a refusal for the sake of a
--- pattern that cannot be read.
+-- The scripts of the makers of the standard's table. Each keyword is treated in one way: one of the
+-- five tables makes it, or nothing is made, or it is refused by name. Before that, the schema is
+-- refused if a pattern cannot be read.
 use Rattle.std.specs.Prelude.{Bool, None, Option, Some, false, true}
 use Rattle.serde_json.specs.Data.{Data, Members}
 use Rattle.serde_json.specs.Find.{get_member}
@@ -33,7 +34,7 @@ abbrev pub refused_at : {K : Type 0} → Text → Text → Option Data → Scrip
 refused_at name text None = then_end nothing
 refused_at name text (Some d) = then_end (refused true (refused_error name d text))
 
--- what is known of a keyword apart from its representation
+-- the shape of a keyword: what contracts know of it, whatever its form in memory
 abbrev pub Shape : Type 0
 Shape = Both Assertion (Both StandardApplicator (Both GatedKeyword (Both FormatKeyword BasicShape)))
 
@@ -46,12 +47,12 @@ script_by Formatted name object draft vocabularies formats = script_as Second (s
 script_by Silent name object draft vocabularies formats = then_end nothing
 script_by Refused name object draft vocabularies formats = refused_at name (refusal_text name) (get_member name object)
 
--- a name of a table's own makes nothing, since none is
+-- no name is the table's own, so such a name makes nothing
 abbrev pub treated_script : Bool → Text → Members → Draft → Vocabularies → Bool → Script Shape
 treated_script true name object draft vocabularies formats = then_end nothing
 treated_script false name object draft vocabularies formats = script_by (treated draft object name) name object draft vocabularies formats
 
--- before that the schema is refused, if it is for the sake of a pattern
+-- first, the schema is refused if a pattern of the member cannot be read
 abbrev pub unless_refused : Option Text → Text → Option Data → Script Shape → Script Shape
 unless_refused None name o s = s
 unless_refused (Some text) name o s = refused_at name text o
@@ -61,9 +62,9 @@ standard_script unreadable own name object draft vocabularies formats =
     unless_refused (pattern_refusal unreadable own name (get_member name object)) name (get_member name object)
     (treated_script own name object draft vocabularies formats)
 
--- ---- the sides of the table
+-- ---- which table makes a keyword
 
--- what goes to the side of the assertions
+-- the keywords that go to the table of assertions and refusals
 abbrev pub leads_by : Treatment → Bool
 leads_by Asserted = true
 leads_by Applied = false
@@ -76,7 +77,7 @@ leads_by Refused = true
 abbrev pub leads_first : Draft → Members → Text → Bool
 leads_first draft object name = leads_by (treated draft object name)
 
--- what goes to the applicators among the rest
+-- of the rest, those that go to the applicators
 abbrev pub leads_on_by : Treatment → Bool
 leads_on_by Asserted = false
 leads_on_by Applied = true
@@ -89,7 +90,7 @@ leads_on_by Refused = false
 abbrev pub leads_to_applicators : Draft → Members → Text → Bool
 leads_to_applicators draft object name = leads_on_by (treated draft object name)
 
--- and to the gated ones among the rest
+-- of the rest, those that go to `patternProperties` and `additionalProperties`
 abbrev pub gates_by : Treatment → Bool
 gates_by Asserted = false
 gates_by Applied = false
@@ -102,7 +103,7 @@ gates_by Refused = false
 abbrev pub leads_to_gates : Draft → Members → Text → Bool
 leads_to_gates draft object name = gates_by (treated draft object name)
 
--- and to `format` among the rest
+-- of the rest, those that go to the formats
 abbrev pub formats_by : Treatment → Bool
 formats_by Asserted = false
 formats_by Applied = false
@@ -115,7 +116,7 @@ formats_by Refused = false
 abbrev pub leads_to_formats : Draft → Members → Text → Bool
 leads_to_formats draft object name = formats_by (treated draft object name)
 
--- what the assertions' side makes of it
+-- the script of the table of assertions and refusals
 abbrev pub made_by : Treatment → Draft → Members → Text → Data → MadeHere Assertion
 made_by Asserted draft object name d = assertions.made draft object name d
 made_by Applied draft object name d = here.Nothing

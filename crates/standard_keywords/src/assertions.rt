@@ -1,4 +1,4 @@
-//! What the assertions' side of the table makes: the assertions, and the refusals.
+//! The table of assertions and refusals.
 ghost use Rattle.std.specs.Prelude.{◌≡◌};
 
 use crate::treatment::{Treatment, refusal_text, treatment_of};
@@ -10,7 +10,9 @@ use serde_json::{Map, Value};
 use standard_assertions::{Assertion, AssertionTable};
 use std::alloc::Global;
 
-/// The assertions of `standard_assertions`, and a refusal of each keyword that is not supported. Nothing is made of any other.
+/// Makes the assertions of `standard_assertions`, and refuses keywords that are not supported.
+///
+/// It makes nothing of any other keyword.
 #[derive(Drop)]
 pub struct AssertionsOrRefusals {}
 

@@ -1,7 +1,10 @@
-//! The keywords of the standard as one keyword type with one table: those that assert by themselves (`standard_assertions`), those
-//! that apply subschemas (`standard_applicators`, `standard_pattern_properties`), and those of the bench's parts. A keyword of the standard that
-//! asserts or applies and that none of them makes is refused by name, and never passed over (`specs/Treatments` says of each name of
-//! each draft what becomes of it). A schema with a pattern that cannot be read is refused, or left to the matcher (`patterns`).
+//! The keywords of the standard, as one keyword type with one table.
+//!
+//! The table joins those of `standard_assertions`, `standard_applicators`,
+//! `standard_pattern_properties`, `standard_formats` and `standard_basics`. A keyword that asserts
+//! or applies subschemas, and that none of them makes, is refused by name: the table never ignores
+//! it. `specs/Treatments` says what happens to each keyword of each draft. A schema with a pattern
+//! that cannot be read is refused, or left to the matcher (`patterns`).
 #![tactic(auto)]
 
 mod assertions;

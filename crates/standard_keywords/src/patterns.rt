@@ -15,17 +15,17 @@ use schema_traits::KeywordOrigin;
 use serde_json::{Map, Value};
 use std::alloc::Global;
 
-/// What becomes of a schema with a pattern that cannot be read as a regular expression: the value of a `pattern`, or a name under a
-/// `patternProperties`.
+/// What happens to a schema with a pattern that cannot be read as a regular expression.
+///
+/// A pattern is the value of `pattern`, or a name under `patternProperties`.
 #[derive(Clone, Copy)]
 pub enum UnreadablePatterns {
-    /// It is refused, by an error that is located at the keyword and names the pattern.
+    /// The schema is refused. The error is located at the keyword and names the pattern.
     Refused,
-    /// The keyword is made, and what its matches answer is the matcher's.
+    /// The keyword is made, and the matcher decides what its matches yield.
     LeftToTheMatcher,
 }
 
-/// What the refusal of a pattern says.
 fn unreadable_text(alloc: Global, pattern: &str) -> Result<String, OutOfMemory>
     ensures text { Shows string_bytes result (unreadable_text pattern.now) }
 {
@@ -34,7 +34,6 @@ fn unreadable_text(alloc: Global, pattern: &str) -> Result<String, OutOfMemory>
     Ok(text)
 }
 
-/// The refusal of a pattern, if it cannot be read.
 fn refusal_of(alloc: Global, pattern: &str) -> Result<Option<String>, OutOfMemory>
     ensures refusal { Shows (option_map string_bytes) result (refusal_among (pattern.now ∷ [])) }
 {
@@ -45,7 +44,7 @@ fn refusal_of(alloc: Global, pattern: &str) -> Result<Option<String>, OutOfMemor
     Ok(Some(text))
 }
 
-/// The refusal of the first of the members' names that cannot be read as a pattern, if there is one.
+/// Returns the refusal of the first name that cannot be read as a pattern, if there is one.
 fn refusal_of_names(
     alloc: Global,
     members: &Map<String, Value>,
@@ -61,7 +60,7 @@ fn refusal_of_names(
     Ok(None)
 }
 
-/// The refusal of a member of this name and value, if it holds a pattern that cannot be read.
+/// Returns the refusal of a member that holds a pattern that cannot be read.
 fn refusal_in(alloc: Global, name: &str, value: &Value) -> Result<Option<String>, OutOfMemory>
     ensures refusal { Shows (option_map string_bytes) result (refusal_in name.now (view value.now)) }
 {
@@ -80,11 +79,11 @@ fn refusal_in(alloc: Global, name: &str, value: &Value) -> Result<Option<String>
     Ok(None)
 }
 
-/// What the refusal says of what a maker is asked for, if it is refused for the sake of a pattern.
+/// Returns the text of the refusal, if the table refuses the member because of a pattern.
 ///
 /// # Errors
 ///
-/// Memory cannot be allocated.
+/// Out of memory.
 pub fn pattern_refusal(
     unreadable: UnreadablePatterns,
     alloc: Global,

@@ -28,7 +28,7 @@ use std::alloc::Global;
 /// A keyword of the standard.
 pub type StandardKeyword = Both<Telling<Assertion>, Applied>;
 
-/// One of them that is no assertion by itself.
+/// A keyword of the standard that `standard_assertions` does not make.
 pub type Applied = Both<
     StandardApplicator,
     Both<GatedKeyword, Both<Telling<FormatKeyword>, BasicKeyword>>,
@@ -53,7 +53,7 @@ type Applicators = RoutedTables<StandardApplicatorTable, ApplicatorRoute, Gates>
 
 type Tables = RoutedTables<TableByObject<AssertionsOrRefusals>, StandardRoute, Applicators>;
 
-/// All but what the other tables make goes to the assertions' side.
+/// Keywords that no other table makes go to the table of assertions and refusals.
 #[derive(Drop)]
 pub struct StandardRoute {}
 
@@ -75,7 +75,7 @@ impl Route for StandardRoute {
     }
 }
 
-/// Of the rest, what `standard_applicators` makes goes to its table.
+/// Of the rest, keywords that `standard_applicators` makes go to its table.
 #[derive(Drop)]
 pub struct ApplicatorRoute {}
 
@@ -89,7 +89,7 @@ impl Route for ApplicatorRoute {
     }
 }
 
-/// Of the rest, what `standard_pattern_properties` makes goes to its table.
+/// Of the rest, keywords that `standard_pattern_properties` makes go to its table.
 #[derive(Drop)]
 pub struct GateRoute {}
 
@@ -103,7 +103,8 @@ impl Route for GateRoute {
     }
 }
 
-/// Of the rest, `format` goes to its table, and else to the bench's.
+/// Of the rest, keywords that `standard_formats` makes go to its table, the others to the
+/// basic one.
 #[derive(Drop)]
 pub struct FormatRoute {}
 
@@ -117,18 +118,23 @@ impl Route for FormatRoute {
     }
 }
 
-/// The table of the standard's keywords. No name is its own. What it makes of a keyword of the standard is what `specs/Treatments` says
-/// of its name and draft: it is made, or passed over in silence where it asserts nothing, or the schema is refused by an error that
-/// shows the keyword's value and is located at the keyword. A value of another shape than its keyword's is refused likewise, and so is one
-/// with a pattern that cannot be read, where the table refuses these (`specs/Patterns`).
+/// The table of the standard's keywords.
+///
+/// It owns no names. `specs/Treatments` defines what it does with each keyword of each draft: it
+/// makes the keyword, makes nothing if the keyword asserts nothing, or refuses the schema. The error
+/// of a refusal shows the keyword's value and is located at the keyword. The table also refuses a
+/// value of the wrong shape and, unless it is told to leave them, a pattern that cannot be read
+/// (`specs/Patterns`).
 #[derive(Drop)]
 pub struct StandardTable {
-    /// What becomes of a schema with a pattern that cannot be read.
+    /// What happens to a schema with a pattern that cannot be read.
     pub unreadable: UnreadablePatterns,
 }
 
 impl StandardTable {
-    /// The table that refuses a schema with a pattern that cannot be read: one that looks around or refers back, or that is none.
+    /// Returns the table that refuses a schema with a pattern that cannot be read.
+    ///
+    /// Such a pattern uses lookaround or a back reference, or is not a pattern.
     pub fn new() -> StandardTable
         ensures refuses { result.unreadable ≡ unreadable.Refused }
     {
@@ -137,7 +143,9 @@ impl StandardTable {
         }
     }
 
-    /// The table that makes its keyword of such a pattern too, and leaves to the matcher what becomes of a match.
+    /// Returns the table that makes keywords of patterns that cannot be read.
+    ///
+    /// The matcher decides what a match of such a pattern yields.
     pub fn leaving_unreadable_patterns() -> StandardTable
         ensures leaves { result.unreadable ≡ unreadable.LeftToTheMatcher }
     {
@@ -147,7 +155,7 @@ impl StandardTable {
     }
 }
 
-/// The five tables.
+/// The five tables, joined.
 fn tables() -> Tables {
     RoutedTables {
         first: TableByObject {
@@ -170,7 +178,6 @@ fn tables() -> Tables {
     }
 }
 
-/// The maker of a refusal with this text, which shows the keyword's value.
 fn refused_at(
     alloc: Global,
     origin: KeywordOrigin<'_>,

@@ -1,4 +1,4 @@
-//! What becomes of each keyword of the standard.
+//! What the table does with each keyword of the standard.
 ghost use Rattle.std.specs.Prelude.{◌≡◌, string_bytes};
 ghost use Rattle.schema_drafts.specs.KeywordViews.{draft_of};
 ghost use Rattle.keyword_authoring.specs.Texts.{is_among};
@@ -17,7 +17,7 @@ use serde_json::{Map, Value};
 use standard_basics::is_older_list;
 use std::alloc::Global;
 
-/// What becomes of a keyword of the standard.
+/// What the table does with a keyword of the standard.
 #[derive(Clone, Copy)]
 pub enum Treatment {
     /// `standard_assertions` makes it.
@@ -26,17 +26,16 @@ pub enum Treatment {
     Applied,
     /// `standard_pattern_properties` makes it.
     Gated,
-    /// The bench's table makes it.
+    /// The basic table makes it (`standard_basics`).
     Basic,
-    /// `standard_formats` makes it, where it asserts.
+    /// `standard_formats` makes it, if it asserts.
     Formatted,
-    /// Nothing is made of it: it asserts nothing.
+    /// It asserts nothing, so nothing is made.
     Silent,
     /// The schema is refused.
     Refused,
 }
 
-/// Whether a name is that of an assertion on numbers.
 fn is_of_numbers(name: &str) -> bool
     ensures numbers { result ≡ is_among of_numbers name.now }
 {
@@ -47,7 +46,6 @@ fn is_of_numbers(name: &str) -> bool
         || name == "exclusiveMaximum"
 }
 
-/// Whether a name is that of an assertion on lists or objects.
 fn is_of_lists_or_objects(name: &str) -> bool
     ensures sizes { result ≡ is_among of_lists_and_objects name.now }
 {
@@ -58,14 +56,14 @@ fn is_of_lists_or_objects(name: &str) -> bool
         || name == "dependentRequired"
 }
 
-/// Whether a name is that of a limit of the characters of texts, or of the members that an object has to have at least.
+/// Returns whether the keyword limits the characters of a text, or the members of an object from
+/// below.
 fn is_of_counts(name: &str) -> bool
     ensures counts { result ≡ is_among of_counts name.now }
 {
     name == "minLength" || name == "maxLength" || name == "minProperties"
 }
 
-/// Whether `standard_assertions` makes the keyword of a name.
 fn is_asserted(name: &str) -> bool
     ensures asserted { result ≡ is_asserted name.now }
 {
@@ -73,35 +71,34 @@ fn is_asserted(name: &str) -> bool
     of_any || is_of_numbers(name) || is_of_lists_or_objects(name) || is_of_counts(name)
 }
 
-/// Whether a name is that of one of the bench's assertions.
 fn is_of_texts_or_members(name: &str) -> bool
     ensures texts { result ≡ is_among of_texts_and_members name.now }
 {
     name == "pattern" || name == "required"
 }
 
-/// Whether a name is that of a keyword that applies subschemas at places below the instance.
+/// Returns whether the keyword applies subschemas below the instance.
 fn is_of_places(name: &str) -> bool
     ensures places { result ≡ is_among of_places name.now }
 {
     name == "properties" || name == "propertyNames" || name == "prefixItems" || name == "items"
 }
 
-/// Whether a name is that of a keyword that applies subschemas at the instance itself.
+/// Returns whether the keyword applies subschemas to the instance itself.
 fn is_of_branches(name: &str) -> bool
     ensures branches { result ≡ is_among of_branches name.now }
 {
     name == "allOf" || name == "anyOf" || name == "oneOf" || name == "not" || name == "if"
 }
 
-/// Whether the bench's table makes the keyword of a name.
 fn is_basic(name: &str) -> bool
     ensures basic { result ≡ is_basic name.now }
 {
     is_of_texts_or_members(name) || is_of_places(name) || is_of_branches(name)
 }
 
-/// Whether the member of a name is an `items` whose value is a list, in a draft where its items are the schemas of places.
+/// Returns whether the member is an `items` whose value is a list, in a draft that takes the list
+/// as one schema for each place.
 fn is_older_items(draft: Draft, object: &Map<String, Value>, name: &str) -> bool
     ensures older { result ≡ is_older_items (draft_of draft) (fields object.now) name.now }
 {
@@ -114,7 +111,8 @@ fn is_older_items(draft: Draft, object: &Map<String, Value>, name: &str) -> bool
     }
 }
 
-/// Whether `items` goes on after `prefixItems` in this draft, which has no `additionalItems` then.
+/// Returns whether `items` continues after `prefixItems` in this draft. Such a draft has no
+/// `additionalItems`.
 fn has_prefix(draft: Draft) -> bool
     ensures prefix { result ≡ has_prefix (draft_of draft) }
 {
@@ -125,14 +123,13 @@ fn has_prefix(draft: Draft) -> bool
     }
 }
 
-/// Whether a name is that of a keyword that `standard_applicators` makes in each draft that has it.
+/// Returns whether `standard_applicators` makes the keyword in every draft that has it.
 fn is_of_each_draft(name: &str) -> bool
     ensures each { result ≡ is_among of_each_draft name.now }
 {
     name == "contains" || name == "dependentSchemas" || name == "dependencies"
 }
 
-/// Whether `standard_applicators` makes the keyword of a name.
 fn is_applied(draft: Draft, object: &Map<String, Value>, name: &str) -> bool
     ensures applied { result ≡ is_applied (draft_of draft) (fields object.now) name.now }
 {
@@ -140,28 +137,25 @@ fn is_applied(draft: Draft, object: &Map<String, Value>, name: &str) -> bool
     is_of_each_draft(name) || is_older_items(draft, object, name) || is_older
 }
 
-/// Whether `standard_pattern_properties` makes the keyword of a name.
 fn is_gated(name: &str) -> bool
     ensures gated { result ≡ is_gated name.now }
 {
     name == "patternProperties" || name == "additionalProperties"
 }
 
-/// Whether `standard_formats` makes the keyword of a name.
 fn is_formatted(name: &str) -> bool
     ensures formatted { result ≡ is_formatted name.now }
 {
     name == "format" || name == "contentEncoding" || name == "contentMediaType"
 }
 
-/// Whether nothing is made of a name.
 fn is_silent(draft: Draft, name: &str) -> bool
     ensures silent { result ≡ is_silent (draft_of draft) name.now }
 {
     name == "contentSchema" || (has_prefix(draft) && name == "additionalItems")
 }
 
-/// What becomes of the member of a name of an object, in a draft that has the name.
+/// Returns what the table does with a member of an object, in a draft that has the keyword.
 pub fn treatment_of(draft: Draft, object: &Map<String, Value>, name: &str) -> Treatment
     ensures treated { result ≡ treated (draft_of draft) (fields object.now) name.now }
 {
@@ -182,11 +176,11 @@ pub fn treatment_of(draft: Draft, object: &Map<String, Value>, name: &str) -> Tr
     }
 }
 
-/// What the refusal of a keyword of this name says.
+/// Returns the text of the refusal of a keyword.
 ///
 /// # Errors
 ///
-/// Memory cannot be allocated.
+/// Out of memory.
 pub fn refusal_text(alloc: Global, name: &str) -> Result<String, OutOfMemory>
     ensures text { Shows string_bytes result (refusal_text name.now) }
 {
