@@ -18,7 +18,7 @@ use Rattle.keyword_joins.specs.declared.both.Both.{Both}
 use Rattle.keyword_joins.specs.declared.both.Both.TheVariants.{First, Second}
 use Rattle.standard_basics.specs.BasicShape.{BasicShape, is_whole}
 use Rattle.standard_basics.specs.Laws.{none_absorbed}
-use Rattle.standard_basics.specs.MakerLaws as bench
+use Rattle.standard_basics.specs.MakerLaws as basics
 use Rattle.standard_basics.specs.Makers.{basic_script}
 use Rattle.standard_applicators.specs.Makers as applicators
 use Rattle.standard_applicators.specs.declared.applicator.StandardApplicator.{StandardApplicator}
@@ -121,7 +121,7 @@ module _ (absorbed : Assertion → List Text) (none : (m : Assertion) → [] ≡
   rightly_by Basic name object draft vocabularies formats =
       end_rightly object (script_as Second (basic_script false name object draft vocabularies formats))
       (both.makes_rightly Second none_absorbed end_absorbed is_whole end_whole (λ m. refl) (λ m. refl) object
-      (basic_script false name object draft vocabularies formats) (bench.makes_rightly false name object draft vocabularies formats))
+      (basic_script false name object draft vocabularies formats) (basics.makes_rightly false name object draft vocabularies formats))
   rightly_by Formatted name object draft vocabularies formats =
       end_rightly object (script_as First (format_script false name object draft vocabularies formats))
       (both.makes_rightly First format_absorbed end_absorbed format_whole end_whole (λ m. refl) (λ m. refl) object
