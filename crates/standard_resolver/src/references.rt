@@ -267,7 +267,7 @@ fn target_by_fragment(
 ///
 /// - Out of memory.
 /// - The reference cannot be resolved, leads to no resource, or leads to nothing in its resource.
-/// The error names the reference, or the URI if the standard's rule finds no resource.
+///   The error names the reference, or the URI if the standard's rule finds no resource.
 /// - A subschema on the path has an identifier, but no resource with its URI begins there.
 pub fn looked_up(
     alloc: Global,

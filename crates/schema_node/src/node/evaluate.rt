@@ -41,27 +41,30 @@ fn evaluate_plan<'i, K: Validate, M: Matcher>(
 {
     let found = engine.nodes.node(node);
     match &found.form {
-        None | Some(NodeForm::Always) => accepting_unit(engine.alloc, found, question, context),
-        Some(NodeForm::Never) => refusing_unit(engine.alloc, found, question, context),
-        Some(NodeForm::Keywords(entries)) => {
-            let kept = context.node_texts(engine.alloc, question.path, &found.location)?;
-            let place = question.place.pointer(engine.alloc)?;
-            let pointer = SharedLocation::new(engine.alloc, place)?;
-            let path = EvaluationPath::kept(&kept);
-            let asked = Question {
-                path: &path,
-                ..*question
-            };
-            let children = evaluate_entries(
-                engine,
-                node,
-                entries.as_slice(),
-                &asked,
-                &pointer,
-                context,
-            )?;
-            entries_unit(engine.alloc, found, kept, pointer, children)
-        }
+        None => accepting_unit(engine.alloc, found, question, context),
+        Some(form) => match form {
+            NodeForm::Always => accepting_unit(engine.alloc, found, question, context),
+            NodeForm::Never => refusing_unit(engine.alloc, found, question, context),
+            NodeForm::Keywords(entries) => {
+                let kept = context.node_texts(engine.alloc, question.path, &found.location)?;
+                let place = question.place.pointer(engine.alloc)?;
+                let pointer = SharedLocation::new(engine.alloc, place)?;
+                let path = EvaluationPath::kept(&kept);
+                let asked = Question {
+                    path: &path,
+                    ..*question
+                };
+                let children = evaluate_entries(
+                    engine,
+                    node,
+                    entries.as_slice(),
+                    &asked,
+                    &pointer,
+                    context,
+                )?;
+                entries_unit(engine.alloc, found, kept, pointer, children)
+            }
+        },
     }
 }
 

@@ -63,11 +63,18 @@ fn run_plan<'i, K: Validate, M: Matcher>(
 {
     let found = engine.nodes.node(node);
     match &found.form {
-        None | Some(NodeForm::Always) => Ok(accepted(engine.alloc, question.mode)),
-        Some(NodeForm::Never) => refused(engine.alloc, found, question),
-        Some(NodeForm::Keywords(entries)) => {
-            run_entries(engine, node, entries.as_slice(), question, context)
-        }
+        None => Ok(accepted(engine.alloc, question.mode)),
+        Some(form) => match form {
+            NodeForm::Always => Ok(accepted(engine.alloc, question.mode)),
+            NodeForm::Never => refused(engine.alloc, found, question),
+            NodeForm::Keywords(entries) => run_entries(
+                engine,
+                node,
+                entries.as_slice(),
+                question,
+                context,
+            ),
+        },
     }
 }
 
@@ -116,6 +123,7 @@ fn run_entry<'i, K: Validate, M: Matcher>(
         if valid {
             return Ok(accepted(engine.alloc, question.mode));
         }
+        return run_form(engine, node, entry, question, context);
     }
     run_form(engine, node, entry, question, context)
 }

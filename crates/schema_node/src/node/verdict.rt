@@ -43,11 +43,18 @@ fn verdict_plan<'i, K: Validate, M: Matcher>(
     ensures { VerdictIsTold K.Validate M.Matcher.own engine.now question.now (a_plan node.0) context.old context.new result }
 {
     match &engine.nodes.node(node).form {
-        None | Some(NodeForm::Always) => Ok(true),
-        Some(NodeForm::Never) => Ok(false),
-        Some(NodeForm::Keywords(entries)) => {
-            verdict_entries(engine, node, entries.as_slice(), question, context)
-        }
+        None => Ok(true),
+        Some(form) => match form {
+            NodeForm::Always => Ok(true),
+            NodeForm::Never => Ok(false),
+            NodeForm::Keywords(entries) => verdict_entries(
+                engine,
+                node,
+                entries.as_slice(),
+                question,
+                context,
+            ),
+        },
     }
 }
 
