@@ -27,7 +27,7 @@ impl<'p, R: Resolver, T> Compiler<'p, R, T> {
           alloc = self.now.alloc;
           resolver = self.now.resolver;
           options = self.now.options;
-          key = key;
+          key = key.entry;
         } }
     {
         Context {
