@@ -4,7 +4,7 @@ use Rattle.theory_definitions.specs.Instance.{Text}
 use Rattle.theory_definitions.specs.Drafts.{Draft, Vocabularies}
 use Rattle.theory_definitions.specs.Making.{Builtin}
 use Rattle.schema_drafts.specs.KeywordTable.{builtin_in}
-use Rattle.schema_drafts.specs.declared.keywords.BuiltinRow.{BuiltinRow}
+use Rattle.schema_drafts.specs.declared.keywords.entries.BuiltinRow.{BuiltinRow}
 
 unfoldable pub builtin : Draft → Vocabularies → Text → Option Builtin
 builtin draft vocabularies name = builtin_in draft vocabularies name

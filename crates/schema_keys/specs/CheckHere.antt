@@ -9,7 +9,7 @@ use Rattle.theory_definitions.specs.Plan.{schema_at}
 use Rattle.theory_meaning.specs.Documents as documents
 use Rattle.theory_meaning.specs.Documents.{is_cut, masked, masked_items, masked_members}
 use Rattle.schema_drafts.specs.KeywordViews.{draft_of}
-use Rattle.schema_drafts.specs.declared.keywords.Draft.{Draft}
+use Rattle.schema_drafts.specs.declared.keywords.drafts.Draft.{Draft}
 use Rattle.schema_traits.specs.ResolverViews.{place_of}
 use Rattle.schema_traits.specs.declared.meta.MetaValidators.{Ghosts as MetaMembers}
 use Rattle.schema_traits.specs.declared.resolver.Resolver.{Ghosts as ResolverMembers}

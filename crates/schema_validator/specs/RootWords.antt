@@ -8,7 +8,7 @@ use Rattle.theory_definitions.specs.Plan.{Key}
 use Rattle.theory_definitions.specs.Resolving.{Resolver}
 use Rattle.theory_meaning.specs.Root.{base_of, key_at, root_draft}
 use Rattle.schema_drafts.specs.KeywordViews.{draft_of}
-use Rattle.schema_drafts.specs.declared.keywords.Draft.{Draft}
+use Rattle.schema_drafts.specs.declared.keywords.drafts.Draft.{Draft}
 use Rattle.schema_traits.specs.ResolverViews.{place_of}
 use Rattle.schema_traits.specs.declared.resolver.Resolver.{Ghosts as ResolverMembers}
 use Rattle.schema_traits.specs.declared.schema_place.SchemaPlace.{SchemaPlace}

@@ -2,8 +2,8 @@
 use Rattle.std.specs.Prelude.{None, Option, Some, if◌then◌else◌, nat_lt, option_and_then, ℕ, ◌==◌, ◌^◌, ◌&&◌}
 use Rattle.serde_json.specs.Data.{Data, Items, no_items}
 use Rattle.serde_json.specs.Find.{as_array, as_number, as_u64}
-use Rattle.schema_drafts.specs.declared.keywords.Draft.{Draft}
-use Rattle.schema_drafts.specs.declared.keywords.Draft.TheVariants.{Draft201909, Draft202012, Draft4, Draft6, Draft7, Unknown}
+use Rattle.schema_drafts.specs.declared.keywords.drafts.Draft.{Draft}
+use Rattle.schema_drafts.specs.declared.keywords.drafts.Draft.TheVariants.{Draft201909, Draft202012, Draft4, Draft6, Draft7, Unknown}
 
 -- a whole number from 0, of at most 64 bits
 abbrev pub count_in : Option Data → Option ℕ

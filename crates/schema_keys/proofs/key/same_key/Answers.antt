@@ -1,6 +1,6 @@
 use Rattle.std.proofs.Common.{◌∙◌, ap, sym, true≢false, rules}
 use denote.Enum.Bare.{same_true}
-use Rattle.schema_drafts.specs.contracts.keywords.Draft.{the_type}
+use Rattle.schema_drafts.specs.contracts.keywords.drafts.Draft.{the_type}
 use Rattle.std.proofs.lemmas.Bool.{eqb-true, eq-eqb}
 use Rattle.schema_keys.specs.KeyViews.{key_of}
 use Rattle.theory_definitions.specs.Plan.{Key}
