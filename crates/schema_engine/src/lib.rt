@@ -1,8 +1,6 @@
 //! The engine: validators, validation in one call, and laws about them.
 //!
-//! A program needs this crate alone, because it re-exports the public names of the crates below, in
-//! the modules `validator`, `options`, `map`, `building`, `compiled`, `reports`, `keywords`,
-//! `unfinished`, `context`, `node`, `compiler` and `ref_`.
+//! Its root lists the public names of the crates below too, so a program needs this crate alone.
 #![tactic(auto)]
 
 mod calls;
