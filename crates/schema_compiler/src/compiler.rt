@@ -25,8 +25,8 @@ use crate::compiler::reservations::ReservedNode;
 use crate::compiler::setup::Compiler;
 use schema_drafts::{CUSTOM_PRIORITY, REF_PRIORITY};
 use schema_keys::{
-    BuildError, CompileOptions, Reading, ReferenceKind, SchemaKey, find, object_of as object_in,
-    reference_kind, value_of,
+    BuildError, CompileOptions, Context, Reading, ReferenceKind, SchemaKey, find,
+    object_of as object_in, reference_kind, value_of,
 };
 use schema_node_table::{Entry, EntryForm, NodeForm};
 use schema_reports::{Location, LocationSegment};
@@ -247,7 +247,12 @@ impl<'p, R: Resolver, T> Compiler<'p, R, T> {
         requires { MayReach R.Resolver T.KeywordTable K.Validate self.now compiled.old key.now reading }
         ensures { GivesPlan R.Resolver T.KeywordTable K.Validate self.now compiled.old compiled.new key.now result }
     {
-        let context = self.context(key);
+        let context = Context {
+            alloc: self.alloc,
+            resolver: self.resolver,
+            options: self.options,
+            key,
+        };
         let value = value_of(self.resolver, key, reading);
         match object_in(value) {
             Some(members) => self.plan_object(compiled, key, members),
@@ -272,7 +277,12 @@ impl<'p, R: Resolver, T> Compiler<'p, R, T> {
         requires { MayMake R.Resolver T.KeywordTable K.Validate self.now compiled.old key.now members.now.entries }
         ensures { GivesObject R.Resolver T.KeywordTable K.Validate self.now compiled.old compiled.new key.now members.now.entries result }
     {
-        let context = self.context(key);
+        let context = Context {
+            alloc: self.alloc,
+            resolver: self.resolver,
+            options: self.options,
+            key,
+        };
         match context.lone_reference(members) {
             Some(value) => {
                 let name = String::from_str(self.alloc, "$ref")?;
@@ -353,7 +363,12 @@ impl<'p, R: Resolver, T> Compiler<'p, R, T> {
             };
             return self.make_entry(compiled, key, members, head, absorbed);
         }
-        let context = self.context(key);
+        let context = Context {
+            alloc: self.alloc,
+            resolver: self.resolver,
+            options: self.options,
+            key,
+        };
         match context.builtin_row(text) {
             None => Ok(None),
             Some(row) => match reference_kind(text) {
@@ -450,7 +465,12 @@ impl<'p, R: Resolver, T> Compiler<'p, R, T> {
         requires { MayMake R.Resolver T.KeywordTable K.Validate self.now compiled.old key.now members.now.entries }
         ensures { GivesChild R.Resolver T.KeywordTable K.Validate self.now compiled.old compiled.new key.now path.now result }
     {
-        let context = self.context(key);
+        let context = Context {
+            alloc: self.alloc,
+            resolver: self.resolver,
+            options: self.options,
+            key,
+        };
         let below = context.in_subresource(members, path)?;
         let reading = Reading::Read(below.value);
         Ok(self.edge_to(compiled, below.key, reading, false, below.pointer)?)

@@ -6,7 +6,7 @@ ghost use Rattle.schema_compiler.specs.Gives.{GivesReference};
 use crate::compiler::compilation::Compilation;
 use crate::compiler::entries::entry_named;
 use crate::compiler::setup::Compiler;
-use schema_keys::{BuildError, SchemaKey};
+use schema_keys::{BuildError, Context, SchemaKey};
 pub use schema_keys::{RefTarget, ReferenceKind};
 use schema_node_table::{Entry, EntryForm};
 use schema_traits::{KeywordTable, Resolver, Validate};
@@ -117,7 +117,12 @@ impl<'p, R: Resolver, T> Compiler<'p, R, T> {
         ensures { GivesReference R.Resolver T.KeywordTable K.Validate self.now
             compiled.old compiled.new key.now name.now priority kind value.now result }
     {
-        let context = self.context(key);
+        let context = Context {
+            alloc: self.alloc,
+            resolver: self.resolver,
+            options: self.options,
+            key,
+        };
         let text = context.text_of(name, value)?;
         match self.reference_edge(compiled, key, name, kind, text)? {
             None => Ok(None),

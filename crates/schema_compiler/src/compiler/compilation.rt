@@ -9,7 +9,7 @@ ghost use Rattle.schema_keys.specs.declared.error.BuildError.TheVariants as buil
 
 use crate::compiler::reservations::Reservations;
 use crate::compiler::setup::Compiler;
-use schema_keys::{BuildError, Keys, SchemaKey};
+use schema_keys::{BuildError, Context, Keys, SchemaKey};
 use schema_node_table::{NodeForm, Nodes};
 use schema_reports::{Location, OutOfMemory};
 use schema_traits::{Edge, KeywordTable, Resolver, SchemaNode, Validate};
@@ -150,7 +150,12 @@ impl<'p, R: Resolver, T> Compiler<'p, R, T> {
         ensures number { IfOk result (λ n. n.0 ≡ length nodes.old) }
     {
         let location = key.location.clone()?;
-        let context = self.context(key);
+        let context = Context {
+            alloc: self.alloc,
+            resolver: self.resolver,
+            options: self.options,
+            key,
+        };
         let base = context.base_uri()?;
         match round {
             Some(number) => nodes.reserve(location, base, key.resource_start, number),

@@ -7,7 +7,7 @@ ghost use Rattle.schema_keys.specs.Compiling.{answers};
 ghost use Rattle.schema_compiler.specs.Gives.{script_of};
 
 use crate::compiler::setup::Compiler;
-use schema_keys::SchemaKey;
+use schema_keys::{Context, SchemaKey};
 use schema_reports::OutOfMemory;
 use schema_traits::{Edge, KeywordOrigin, KeywordTable, MakerReply, Resolver, Validate};
 use serde_json::{Map, Value};
@@ -26,7 +26,12 @@ impl<'p, R: Resolver, T> Compiler<'p, R, T> {
         ensures begins { Shows T.waiting result (begun
             (script_of R.Resolver T.KeywordTable K.Validate self.now key.now members.now.entries own name.now)) }
     {
-        let context = self.context(key);
+        let context = Context {
+            alloc: self.alloc,
+            resolver: self.resolver,
+            options: self.options,
+            key,
+        };
         let formats = context.validates_formats_by_default();
         self.table.begin(
             self.alloc,

@@ -5,7 +5,7 @@ ghost use Rattle.schema_compiler.specs.Carried.{RefusesTarget, Targets, lacking,
 ghost use Rattle.schema_keys.specs.Refusing.{Names};
 
 use crate::compiler::setup::Compiler;
-use schema_keys::{BuildError, ReferenceKind, SchemaKey};
+use schema_keys::{BuildError, Context, ReferenceKind, SchemaKey};
 use schema_traits::{KeywordTable, Resolver, Validate};
 
 impl<'p, R: Resolver, T> Compiler<'p, R, T> {
@@ -41,7 +41,12 @@ impl<'p, R: Resolver, T> Compiler<'p, R, T> {
         ensures refused { IfErr result (RefusesTarget (task R.resolving T.owned T.script K.shape self.now) (key_of R.point key.now)
             (kind_of kind) text.now) }
     {
-        let context = self.context(key);
+        let context = Context {
+            alloc: self.alloc,
+            resolver: self.resolver,
+            options: self.options,
+            key,
+        };
         let target = context.target_key(kind, text)?;
         self.check_target(&target)?;
         Ok(target)
