@@ -1,6 +1,9 @@
 //! The result of a keyword's evaluation. (Core 2020-12, 12.4)
 //!
 //! It consists of a verdict, annotations, errors, and the units inside the keyword's own.
+//!
+//! If a keyword asks a child that its request did not get, then the unit that it receives is valid,
+//! at empty locations.
 ghost use Rattle.std.specs.Prelude.{◌≡◌, [], ◌∷◌, Bool, IfOk, OnErr, map, true, false, OnOk};
 ghost use Rattle.serde_json.specs.View.{view};
 ghost use Rattle.schema_reports.specs.UnitViews.{described_of, unit_of};

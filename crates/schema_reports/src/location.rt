@@ -1,4 +1,7 @@
 //! JSON Pointers as text (RFC 6901).
+//!
+//! Clones and comparisons are those of the traits, whose laws say that a clone equals what
+//! contracts see. Contracts see the bytes through a model, which hides the capacity.
 ghost use Rattle.std.specs.Prelude.{◌≡◌, ℕ, List, [], ◌++◌, bytes_eq, string_bytes, decimal, true, OnOk};
 ghost use Rattle.schema_reports.specs.Showing.{Adds, Yields};
 ghost use Rattle.std.specs.Cmp.{partial_equiv_from_equiv};

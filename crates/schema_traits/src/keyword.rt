@@ -1,4 +1,12 @@
 //! The keyword trait, whose runs ask the engine questions by turns.
+//!
+//! A mark names a request, or the position of a reserved number among those that the maker
+//! received, so no keyword holds the number of a node. An answer shows its mode, so a run need not
+//! keep it. Large parts are boxed, so that an answer is four words long in every mode.
+//!
+//! `monotone` has no default body, since a default body would have to be proved for every type. A
+//! spot belongs to the keyword, but the step below it may have any name. So a match below members
+//! that the schema does not name needs no spot for each of them.
 ghost use Rattle.std.specs.Prelude.{◌≡◌, ℕ, All, Bool, List, IfOk, IfSome, true, OnOk};
 ghost use Rattle.serde_json.specs.Data.{Data};
 ghost use Rattle.theory_definitions.specs.Instance.{Text, Subject};

@@ -1,4 +1,8 @@
 //! The matcher, which decides whether a text matches a pattern.
+//!
+//! `finishes` has no default body, because a default body is proved for any value of the ghost
+//! member `finishing`. `finishing` has a default instead, so that a matcher that returns `false`
+//! need not write it.
 ghost use Rattle.std.specs.Prelude.{◌≡◌, Bool, false, true};
 ghost use Rattle.schema_traits.specs.Showing.{Shows, Yields};
 ghost use Rattle.theory_definitions.specs.Matching as spec;

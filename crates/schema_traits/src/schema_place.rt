@@ -1,4 +1,7 @@
 //! Places in schemas.
+//!
+//! The name in a step is a shared string, since each key of a build holds its place from the root
+//! of the document.
 ghost use Rattle.std.specs.Prelude.{◌≡◌, List, [], ◌∷◌, ◌++◌, IfOk, OnErr, OnOk, length, take, drop, map};
 ghost use Rattle.schema_traits.specs.Showing.{Shows, Yields};
 ghost use Rattle.std.specs.Cmp.{on_equiv, partial_equiv_from_equiv};

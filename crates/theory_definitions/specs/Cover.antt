@@ -1,6 +1,7 @@
 -- The cover of a call: lists of assumptions that distinguish the possible outcomes of the
 -- unfinished matches that its runs meet. A call decides if the runs for its cover are within its
--- limit.
+-- limit. A cover is a relation, which lists the members that assume a no first. That a run returns
+-- the assumptions it was given is a premise inside the clauses, so a caller need not know it.
 use Rattle.std.specs.Prelude.{Bool, List, None, Option, Some, [], false, find, is_some, length, not, true, ℕ, ◌*◌, ◌+◌, ◌++◌, ◌∷◌, ◌≡◌, ◌≤◌}
 use Rattle.serde_json.specs.Data.{Data}
 use Rattle.theory_definitions.specs.Instance.{Text}

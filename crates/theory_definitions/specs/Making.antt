@@ -1,6 +1,8 @@
 -- The makers of a keyword table, which make keywords from the members of an object: what each maker
 -- requests in turn, and how it ends. Node numbers do not occur in a script, so they cannot change
--- what a maker requests or how it ends. (Core 2020-12, 4.3.1 and 6.5)
+-- what a maker requests or how it ends. Requests for pending or reserved numbers do not count as
+-- requests of a making. So a child has the same number, whether a number was pending or not. (Core
+-- 2020-12, 4.3.1 and 6.5)
 use Rattle.std.specs.Prelude.{Bool, List, Option, [], if◌then◌else◌, ℕ, ◌∷◌}
 use Rattle.serde_json.specs.Data.{Members}
 use Rattle.theory_definitions.specs.Instance.{Place, Text}

@@ -1,6 +1,7 @@
 -- A matcher says whether a text matches a pattern, or leaves the match unfinished. A completion
--- assigns an outcome to every unfinished match; assumptions assign one to some of them. (Validation
--- 2020-12, 4.3, regular expressions)
+-- assigns an outcome to every unfinished match; assumptions assign one to some of them. A
+-- completion is a value: an outcome for all unfinished pairs, and a finite list of exceptions. So
+-- "for every completion" is an ordinary quantifier. (Validation 2020-12, 4.3, regular expressions)
 use Rattle.std.specs.List.{list_any}
 use Rattle.std.specs.Prelude.{Bool, List, None, Option, Some, [], bytes_eq, false, filter_map, find, if◌then◌else◌, not, option_map, true, ◌&&◌, ◌≡◌}
 use Rattle.theory_definitions.specs.Instance.{Text}

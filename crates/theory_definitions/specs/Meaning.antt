@@ -1,5 +1,7 @@
 -- What a schema says of an instance, with every reference resolved afresh: `true` accepts, `false`
--- rejects, and a list of keywords accepts if each of them holds. (Core 2020-12, 4.3.2, 7.6 and
+-- rejects, and a list of keywords accepts if each of them holds. An error that a keyword reports
+-- for one that it absorbs has the absolute location of the absorbed keyword, since its paths name
+-- that keyword, and `evaluate` gives it a unit at the same location. (Core 2020-12, 4.3.2, 7.6 and
 -- 8.2.3)
 use Rattle.std.specs.Prelude.{Bool, List, None, Option, Some, [], codes, false, if◌then◌else◌, map, suc, true, unwrap_or, zero, ℕ, ◌&&◌, ◌++◌, ◌∷◌}
 use Rattle.json.specs.Print.{quoted}

@@ -1,6 +1,9 @@
 -- Targets, keys and plans: a key is a place in a schema as it is reached, and its plan says what
--- the schema there requires of an instance, by which keywords, subschemas and references. (Core
--- 2020-12, 4.3, 8.2.3, 9.1.2 and 10; section 6 of RFC 6901)
+-- the schema there requires of an instance, by which keywords, subschemas and references. A target
+-- is a key without location, base and start. Keys that differ in these alone count once, since a
+-- chain returns if it comes twice to the same target at the same place. The requests of a maker end
+-- at the first one that is refused, because the compiler stops there too: no key past it counts for
+-- the limit. (Core 2020-12, 4.3, 8.2.3, 9.1.2 and 10; section 6 of RFC 6901)
 use Rattle.std.specs.List.{list_any, starts_with}
 use Rattle.std.specs.Prelude.{Bool, Err, List, None, Ok, Option, Result, Some, [], bytes_eq, codes, count_by, drop, false, if◌then◌else◌, length, nat_le, option_and_then, option_map, slice_get, suc, take, true, unwrap_or, zero, ℕ, ◌&&◌, ◌++◌, ◌-◌, ◌==◌, ◌||◌, ◌∷◌}
 use Rattle.std.specs.Str.Lossy.{utf8_lossy}

@@ -1,4 +1,6 @@
--- What each of the four calls answers.
+-- What each of the four calls answers. The error of `validate` is the first shared error in the
+-- order of the completion in which every match counts as matching. It is not defined as the head of
+-- the list of shared errors, because `validate` never computes that list.
 use Rattle.std.specs.Prelude.{Bool, Contains, List, None, Option, Some, [], codes, false, true, unwrap_or, ℕ, ◌++◌, ◌↔◌, ◌∷◌, ◌≡◌, ◌≤◌}
 use Rattle.serde_json.specs.Data.{Data}
 use Rattle.serde_json.specs.Written.{has_float}

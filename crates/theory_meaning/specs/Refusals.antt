@@ -1,4 +1,7 @@
--- Why a schema is refused: the causes that hold for the keys that it reaches.
+-- Why a schema is refused: the causes that hold for the keys that it reaches. A cause is data, with
+-- what the refusal shows, so a refusal that names a cause also shows the right text. If a lookup
+-- fails, the requests of the other members are followed all the same, since no build succeeds
+-- there.
 use Rattle.std.specs.List.{list_any}
 use Rattle.std.specs.Prelude.{Bool, Contains, Err, List, None, Ok, Result, Some, [], bytes_eq, codes, false, flat_map, if◌then◌else◌, true, ◌++◌, ◌∷◌, ◌≡◌}
 use Rattle.serde_json.specs.Data.{Data, Members, boolean, member, no_members, object, string}

@@ -1,5 +1,6 @@
 -- The order in which a call makes its runs, and so the runs that it makes within its limit. At any
--- time some lists of assumptions wait, and the call runs the first of them next.
+-- time some lists of assumptions wait, and the call runs the first of them next. The order matters
+-- because a failure has a site of a run that the call makes within its limit.
 use Rattle.std.specs.Prelude.{List, None, Option, Some, [], false, suc, true, zero, ℕ, ◌<◌, ◌∷◌, ◌≡◌}
 use Rattle.theory_definitions.specs.Matching.{Assumptions}
 use Rattle.theory_definitions.specs.Runs.{Met}

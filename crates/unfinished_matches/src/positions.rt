@@ -1,4 +1,7 @@
 //! An index of a list by hash: the first position of each hash.
+//!
+//! The list itself is kept beside its index, and is searched from the first position of a hash on
+//! if two elements have the same hash. So no law about the hash is needed.
 ghost use Rattle.std.specs.Prelude.{◌≡◌, ◌≤◌, ◌+◌, OnErr, OnOk, length, nat_eq, vec_capacity, vec_len};
 ghost use Rattle.std.specs.HashMap.{get};
 ghost use Rattle.unfinished_matches.specs.MatchViews.{pair_of};

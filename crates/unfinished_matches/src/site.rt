@@ -1,4 +1,8 @@
 //! Unfinished matches, and the sites at which a run meets them.
+//!
+//! A failure shows the pattern of its site, or else that of the first site, or else the compiled
+//! pattern. Its keyword is `pattern`, whichever keyword requested the match, and it is reported at
+//! the value that its pointer leads to.
 ghost use Rattle.std.specs.Prelude.{[], IfOk, None, Some, is_some, option_copied, option_map};
 ghost use Rattle.std.specs.Prelude.{string_bytes, true, unwrap_or, ◌≡◌};
 ghost use Rattle.schema_reports.specs.Showing.{Shows, Yields};

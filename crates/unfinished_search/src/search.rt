@@ -1,4 +1,7 @@
 //! The search over the outcomes of unfinished matches.
+//!
+//! The search borrows its runs as a function. So it knows no nodes, and its contracts count the
+//! calls of that function.
 ghost use Rattle.std.specs.Prelude.{[], IfOk, IsSome, None, Ok, Some, false, true, ◌++◌, ◌∷◌, ◌≡◌, ◌≤◌, OnOk};
 ghost use Rattle.theory_definitions.specs.Cover.{assuming};
 ghost use Rattle.theory_meaning.specs.Search.{UsesBelow};
