@@ -1,6 +1,9 @@
 //! Integers and multiples (JSON Schema Validation 2020-12, 6.1.1 and 6.2.1).
 //!
 //! A number is split into odd digits and a power of two.
+//!
+//! Two integers are divided exactly. A quotient with a float in it is rounded, so that 0.0075 is a
+//! multiple of 0.0001, as people expect, although this is not so of the floats nearest to them.
 ghost use Rattle.std.specs.Prelude.{◌%◌, ◌==◌, ◌≡◌, ◌*◌, ◌^◌, ◌<◌, IsTrue, unwrap_or, option_map, false};
 ghost use Rattle.std.specs.Float.{float_is_finite};
 ghost use lib.Ieee.Positive.{den, num};

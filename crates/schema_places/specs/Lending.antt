@@ -6,6 +6,6 @@ use mir.Syntax.{named}
 use Rattle.serde_json.specs.declared.value.Value.{Value}
 use Rattle.schema_places.specs.contracts.on_demand.PlacesOnDemand.{the_row}
 
--- they end as the places of this instance
+-- once the borrow ends, they are the places of this instance
 abbrev pub EndsAs : MutBor Value → Value → Fml
 EndsAs s v = follows_so (the_row (record { mir = named 1; lft = [] })) (the_row (record { mir = named 1; lft = [] })) s.ghost_name none (λ _ _. ⊤) (λ n. n ≡ v)

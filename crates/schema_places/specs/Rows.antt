@@ -91,15 +91,14 @@ abbrev pub number_of_name : Text → List NameNumbers → Option ℕ
 number_of_name k [] = None
 number_of_name k (m ∷ ms) = if bytes_eq k m.0 then Some m.1 else number_of_name k ms
 
--- the numbers of a count of places that follow one another below a place, beginning with a first
--- one: each is one past the last number at or below the place before it. That last number is looked
--- up at the item itself (a gap of 0), or at the name's member, whose number is one more than the
--- name's (a gap of 1)
+-- the numbers of `count` places that follow one another below a place, beginning with `n`. Each
+-- number is one past the last number at or below the place before it. For an item the gap is 0. For
+-- a name it is 1: the last number is that of its member, which has the number after the name's
 abbrev pub numbers_from : (ℕ → ℕ) → ℕ → ℕ → ℕ → List ℕ
 numbers_from last gap n zero = []
 numbers_from last gap n (suc count) = n ∷ numbers_from last gap (last (n + gap) + 1) count
 
--- the walk of `numbers_from` stays below a number of places
+-- every number that `numbers_from` looks up or finds there is less than `size`
 abbrev pub Walks : (ℕ → ℕ) → ℕ → ℕ → ℕ → ℕ → Type 0
 Walks last size gap n zero = Unit {0}
 Walks last size gap n (suc count) = (n + gap < size) × (last (n + gap) < size) × Walks last size gap (last (n + gap) + 1) count

@@ -1,4 +1,7 @@
 //! The places of an instance, numbered when their numbers are first requested.
+//!
+//! The first question that needs the number of its place numbers them all, so a schema without such
+//! questions numbers nothing and allocates nothing. Each run of a call numbers the places anew.
 ghost use Rattle.std.specs.Prelude.{◌≡◌, IfOk, OnErr, OnOk, Some, ⊤};
 ghost use Rattle.std.specs.Borrow.{sem};
 ghost use Rattle.theory_definitions.specs.Instance.{places};

@@ -64,10 +64,10 @@ impl<'i> Model for Table<'i> {
     ghost invariant = { λ t. AreRows t.numbers.items t.rows.items };
 }
 
-// Up to this many names are searched one by one, more by bisection.
+// Up to this many names are searched one by one. More are searched by bisection.
 const FEW_NAMES: usize = 8;
 
-// A name of up to this many bytes is compared byte by byte, a longer one by words.
+// A name of up to this many bytes is compared byte by byte. A longer one is compared by words.
 const SHORT_NAME: usize = 7;
 
 fn numbers_between(numbers: &[usize], from: usize, to: usize) -> &[usize]

@@ -1,4 +1,8 @@
 //! The rules for reading documents.
+//!
+//! A rule is data: the resolver holds it in a field, and the definitions of URIs, names and
+//! subschemas take it as a parameter. So the walk, the table, the lookups and their laws are
+//! written and proved once for both rules.
 
 /// A rule for reading documents.
 #[derive(Clone, Copy)]

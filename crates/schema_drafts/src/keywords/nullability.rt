@@ -9,7 +9,7 @@ pub trait Nullability: Debug {
 #[derive(Clone, Copy, Debug, PartialEq, Eq)]
 pub struct Nullable;
 
-/// Accepts `null` only if it is of the keyword's type.
+/// Accepts `null` only if `null` is of the keyword's type.
 #[derive(Clone, Copy, Debug, PartialEq, Eq)]
 pub struct NotNullable;
 

@@ -1,3 +1,8 @@
+//! Vocabularies and sets of them.
+//!
+//! The set has one flag for each of the nine standard vocabularies, and sorts the URIs of the
+//! others, so two sets with the same vocabularies are equal. If several custom vocabularies are not
+//! declared, a refusal names the first of them in that order.
 ghost use Rattle.std.specs.Prelude.{◌≡◌, ◌≤◌, ◌++◌, ◌∷◌, MatchOption, OnErr, OnOk, bytes_eq, drop, length, map, string_bytes, take};
 ghost use Rattle.std.specs.List.{list_any};
 ghost use Rattle.theory_definitions.specs.VocabularySets.{placed_text};
@@ -201,8 +206,8 @@ fn contains_text(texts: &[String], text: &String) -> bool
     false
 }
 
-// The position where the text has to be inserted to keep the texts sorted; `None` if it is there
-// already.
+// Returns the position at which the text, once inserted, leaves the texts sorted. Returns `None` if
+// the text is there already.
 fn place_among(texts: &[String], text: &str) -> Option<usize>
     ensures place { MatchOption result
         (placed_text text.now (map string_bytes texts.now) ≡ map string_bytes texts.now)
@@ -219,7 +224,7 @@ fn place_among(texts: &[String], text: &str) -> Option<usize>
     Some(texts.len())
 }
 
-// Inserts the text into sorted texts, if it is not there already. They are unchanged on `Err`.
+// Inserts the text into the sorted texts, unless it is there already. On `Err` they are unchanged.
 fn place_text(texts: &mut Vec<String>, text: String) -> Result<(), AllocError>
     ensures placed { OnOk result
         (map string_bytes texts.new.items ≡ placed_text (string_bytes text) (map string_bytes texts.old.items)) }
