@@ -1,7 +1,7 @@
 //! The keyword table.
-ghost use Rattle.std.specs.Prelude.{◌≡◌, ◌∷◌, [], IfOk, codes};
+ghost use Rattle.std.specs.Prelude.{◌≡◌, ◌∷◌, [], IfOk, Some, codes};
 ghost use Rattle.serde_json.specs.View.{view};
-ghost use Rattle.schema_drafts.specs.KeywordViews.{draft_of};
+ghost use Rattle.schema_drafts.specs.KeywordViews.{builtin_text, draft_of};
 ghost use Rattle.schema_traits.specs.MakerViews as makers;
 ghost use Rattle.keyword_makers.specs.MakerViews.{made_of, waiting_of, Begins};
 ghost use Rattle.standard_basics.specs.Shapes.{shape_of};
@@ -20,7 +20,7 @@ use keyword_makers::{
     Children, Ending, MakesByValue, MemberKeyword, PathsMaker, TableByValue, ends, value_in,
     value_of,
 };
-use schema_drafts::{Draft, VocabularySet, builtin_row};
+use schema_drafts::{BuiltinEntry, BuiltinKeyword, Draft, VocabularySet, builtin_row};
 use schema_reports::OutOfMemory;
 use schema_traits::{KeywordOrigin, KeywordTable, MakerReply, MakerStep};
 use serde_json::{Map, Value};
@@ -167,49 +167,78 @@ fn among(maker: PathsMaker<BasicKeyword>) -> PathsMaker<FusedKeyword>
 }
 
 /// Returns the maker of a member that nothing absorbs and that absorbs nothing.
+#[tactic(auto, using(crate::proofs::OtherNames::not_least))]
 fn plain_maker(
     alloc: Global,
-    name: &str,
+    entry: BuiltinEntry,
     object: &Map<String, Value>,
     draft: Draft,
     vocabularies: &VocabularySet,
     formats: bool,
 ) -> Result<PathsMaker<FusedKeyword>, OutOfMemory>
-    ensures maker { IfOk result (Begins fused_shape (plain_script name.now (fields object.now) (draft_of draft) vocabularies.now formats)) }
+    ensures maker { IfOk result (Begins fused_shape (plain_script (builtin_text entry.keyword) (fields object.now) (draft_of draft)
+        vocabularies.now formats)) }
 {
-    let origin = KeywordOrigin::Builtin(name);
-    if name == "minItems" {
-        let table = TableByValue {
-            keywords: LeastTable {},
-        };
-        return table.begin(alloc, origin, object, draft, vocabularies, formats);
+    let origin = KeywordOrigin::Builtin(entry);
+    match entry.keyword {
+        BuiltinKeyword::MinItems => {
+            let table = TableByValue {
+                keywords: LeastTable {},
+            };
+            table.begin(alloc, origin, object, draft, vocabularies, formats)
+        }
+        _ => {
+            let table = BasicTable {};
+            let maker = table.begin(alloc, origin, object, draft, vocabularies, formats)?;
+            Ok(among(maker))
+        }
     }
-    let table = BasicTable {};
-    let maker = table.begin(alloc, origin, object, draft, vocabularies, formats)?;
-    Ok(among(maker))
+}
+
+/// Returns the maker of a member of an object that fuses the three.
+#[tactic(auto, using(crate::proofs::OtherNames::not_type, crate::proofs::OtherNames::not_least, crate::proofs::OtherNames::not_items))]
+fn fused_maker(
+    alloc: Global,
+    least: u64,
+    entry: BuiltinEntry,
+    object: &Map<String, Value>,
+    draft: Draft,
+    vocabularies: &VocabularySet,
+    formats: bool,
+) -> Result<FusedMaker, OutOfMemory>
+    ensures maker { Shows fused_waiting result (makers.begun (script_by (Some least) (builtin_text entry.keyword) (fields object.now)
+        (draft_of draft) vocabularies.now formats)) }
+{
+    match entry.keyword {
+        BuiltinKeyword::TypeKeyword | BuiltinKeyword::MinItems => {
+            Ok(FusedMaker::Plain(ends(alloc, Ending::Nothing)))
+        }
+        BuiltinKeyword::Items => Ok(FusedMaker::AsksItems(items_before(draft, object), least)),
+        _ => {
+            let maker = plain_maker(alloc, entry, object, draft, vocabularies, formats)?;
+            Ok(FusedMaker::Plain(maker))
+        }
+    }
 }
 
 fn member_maker(
     alloc: Global,
-    name: &str,
+    entry: BuiltinEntry,
     object: &Map<String, Value>,
     draft: Draft,
     vocabularies: &VocabularySet,
     formats: bool,
 ) -> Result<FusedMaker, OutOfMemory>
     ensures maker { Shows fused_waiting result (makers.begun (script_by (fused_limit (draft_of draft) vocabularies.now
-        (fields object.now)) name.now (fields object.now) (draft_of draft) vocabularies.now formats)) }
+        (fields object.now)) (builtin_text entry.keyword) (fields object.now) (draft_of draft) vocabularies.now formats)) }
 {
-    if let Some(least) = fused_limit(object, draft, vocabularies) {
-        if name == "type" || name == "minItems" {
-            return Ok(FusedMaker::Plain(ends(alloc, Ending::Nothing)));
-        }
-        if name == "items" {
-            return Ok(FusedMaker::AsksItems(items_before(draft, object), least));
+    match fused_limit(object, draft, vocabularies) {
+        Some(least) => fused_maker(alloc, least, entry, object, draft, vocabularies, formats),
+        None => {
+            let maker = plain_maker(alloc, entry, object, draft, vocabularies, formats)?;
+            Ok(FusedMaker::Plain(maker))
         }
     }
-    let maker = plain_maker(alloc, name, object, draft, vocabularies, formats)?;
-    Ok(FusedMaker::Plain(maker))
 }
 
 fn absorbed_names(alloc: Global) -> Result<Vec<String>, OutOfMemory>
@@ -250,8 +279,8 @@ impl KeywordTable<FusedKeyword> for FusedTable {
     ) -> Result<FusedMaker, OutOfMemory> {
         match origin {
             KeywordOrigin::Own(_) => Ok(FusedMaker::Plain(ends(alloc, Ending::Nothing))),
-            KeywordOrigin::Builtin(name) => {
-                member_maker(alloc, name, object, draft, vocabularies, formats)
+            KeywordOrigin::Builtin(entry) => {
+                member_maker(alloc, entry, object, draft, vocabularies, formats)
             }
         }
     }

@@ -15,7 +15,7 @@ use Rattle.keyword_joins.specs.declared.both.Both.TheVariants.{First, Second}
 -- ---- two keywords of two types that say the same
 
 module _ {K L Q R : Type 0} (one : Keywords K Q) (k : K) (other : Keywords L R) (l : L) (s : Subject) where
-  same_asks : one.may_ask k s ≡ other.may_ask l s → (absorbed : List Text) (t : Turn) → AsksRightly one k s absorbed t → AsksRightly other l s absorbed t
+  pub same_asks : one.may_ask k s ≡ other.may_ask l s → (absorbed : List Text) (t : Turn) → AsksRightly one k s absorbed t → AsksRightly other l s absorbed t
   same_asks same absorbed (ask q mode) h = subst (λ qs. Contains qs q) same h
   same_asks same absorbed (match_text a point) h = h
   same_asks same absorbed (mark i) h = tt
@@ -25,7 +25,7 @@ module _ {K L Q R : Type 0} (one : Keywords K Q) (k : K) (other : Keywords L R) 
 
   module _ (matches : Matching) (answers : Answers) (unit_at : Question → Unit_) (same : Marked → Marked → Bool) where
     -- the reply to a turn, and the marks after it, do not depend on the keyword
-    same_reply : (marks : List Marked) (t : Turn) → reply_to one k s matches answers unit_at same marks t ≡ reply_to other l s matches answers unit_at same marks t
+    pub same_reply : (marks : List Marked) (t : Turn) → reply_to one k s matches answers unit_at same marks t ≡ reply_to other l s matches answers unit_at same marks t
     same_reply marks (ask q for_verdict) = refl
     same_reply marks (ask q for_first) = refl
     same_reply marks (ask q for_all) = refl
@@ -36,7 +36,7 @@ module _ {K L Q R : Type 0} (one : Keywords K Q) (k : K) (other : Keywords L R) 
     same_reply marks (ecma text) = refl
     same_reply marks done = refl
 
-    same_marks : (marks : List Marked) (t : Turn) → marks_after one k s matches answers unit_at same marks t ≡ marks_after other l s matches answers unit_at same marks t
+    pub same_marks : (marks : List Marked) (t : Turn) → marks_after one k s matches answers unit_at same marks t ≡ marks_after other l s matches answers unit_at same marks t
     same_marks marks (ask q mode) = refl
     same_marks marks (match_text a point) = refl
     same_marks marks (mark i) = refl
@@ -44,7 +44,7 @@ module _ {K L Q R : Type 0} (one : Keywords K Q) (k : K) (other : Keywords L R) 
     same_marks marks (ecma text) = refl
     same_marks marks done = refl
 
-    same_right : one.holds k s matches ≡ other.holds l s matches → one.faults k s matches ≡ other.faults l s matches → one.units k s matches ≡ other.units l s matches
+    pub same_right : one.holds k s matches ≡ other.holds l s matches → one.faults k s matches ≡ other.faults l s matches → one.units k s matches ≡ other.units l s matches
         → (mode : Mode) (a : Answer) → IsRight one k s matches answers unit_at same mode a → IsRight other l s matches answers unit_at same mode a
     same_right holds faults units for_verdict a h = subst (λ f. a.verdict ≡ f (λ q. (answers q).verdict)) holds h
     same_right holds faults units for_first a h = subst (λ f. a.errors ≡ first_fault (f answers)) faults h
@@ -58,7 +58,7 @@ abbrev pub ShowsAnswer : {M Q : Type 0} → (Bool → Keywords M (Q × Answer)) 
 ShowsAnswer {M} {Q} words = (texts : Bool) (r : Q) (a : Answer) → (words texts).answer (r, a) ≡ a
 
 -- the state of a run after a turn, with these marks and this reply to it
-abbrev after : {M Q : Type 0} → Keywords M (Q × Answer) → M → Standing (Q × Answer) → List Marked → Reply → Standing (Q × Answer)
+abbrev pub after : {M Q : Type 0} → Keywords M (Q × Answer) → M → Standing (Q × Answer) → List Marked → Reply → Standing (Q × Answer)
 after words m x marks reply = record x { marks = marks; state = turned words m x; reply = reply }
 
 module _ {M N Q R : Type 0} (one : Bool → Keywords M (Q × Answer)) (other : Bool → Keywords N (R × Answer))

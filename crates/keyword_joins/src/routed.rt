@@ -6,12 +6,12 @@ ghost use Rattle.serde_json.specs.Data.{Members};
 ghost use Rattle.serde_json.specs.View.{members_view};
 ghost use Rattle.theory_definitions.specs.Drafts as drafts;
 ghost use Rattle.theory_definitions.specs.Instance.{Text};
-ghost use Rattle.schema_drafts.specs.KeywordViews.{draft_of};
+ghost use Rattle.schema_drafts.specs.KeywordViews.{builtin_text, draft_of};
 ghost use Rattle.schema_traits.specs.MakerViews as makers;
 
 use crate::both::Both;
 use crate::table::turn_either;
-use schema_drafts::{Draft, VocabularySet};
+use schema_drafts::{BuiltinKeyword, Draft, VocabularySet};
 use schema_reports::OutOfMemory;
 use schema_traits::{KeywordOrigin, KeywordTable, MakerReply, MakerStep, Validate};
 use serde_json::{Map, Value};
@@ -21,11 +21,16 @@ use std::alloc::Global;
 pub trait Route: Drop {
     ghost leads: { Self → drafts.Draft → Members → Text → Bool };
 
-    /// Returns whether the member with this name goes to the first table.
+    /// Returns whether the member of this keyword goes to the first table.
     ///
-    /// The draft is one that knows the name.
-    fn leads_first(&self, draft: Draft, object: &Map<String, Value>, name: &str) -> bool
-        ensures leads { result ≡ leads self.now (draft_of draft) (members_view object.now.entries) name.now };
+    /// The draft is one that has the keyword.
+    fn leads_first(
+        &self,
+        draft: Draft,
+        object: &Map<String, Value>,
+        keyword: BuiltinKeyword,
+    ) -> bool
+        ensures leads { result ≡ leads self.now (draft_of draft) (members_view object.now.entries) (builtin_text keyword) };
 }
 
 /// Two tables as one, joined by a route.
@@ -54,7 +59,7 @@ fn goes_first<K: Validate, S: KeywordTable<K>, R: Route>(
 {
     match origin {
         KeywordOrigin::Own(name) => first.owns(name),
-        KeywordOrigin::Builtin(name) => route.leads_first(draft, object, name),
+        KeywordOrigin::Builtin(entry) => route.leads_first(draft, object, entry.keyword),
     }
 }
 

@@ -1,7 +1,6 @@
 //! The join of two keyword tables by a list of names.
 ghost use Rattle.std.specs.Prelude.{◌≡◌, ◌||◌, bytes_eq, IfOk};
 ghost use Rattle.std.specs.List.{list_any};
-ghost use Rattle.schema_traits.specs.MakerViews as makers;
 ghost use Rattle.schema_traits.specs.MakerViews.{TakesTurn, maker_reply_of};
 ghost use Rattle.keyword_joins.specs.BothScripts.{both_waiting, step_as};
 ghost use Rattle.keyword_joins.specs.Sides.{side_of};
@@ -43,15 +42,6 @@ fn goes_first<K: Validate, S: KeywordTable<K>>(first: &S, names: &[&str], name: 
     ensures goes { result ≡ (list_any (λ k. bytes_eq name.now k.now) names.now || S.owned first.now name.now) }
 {
     is_among(name, names) || first.owns(name)
-}
-
-fn name_of(origin: KeywordOrigin<'_>) -> &str
-    ensures name { result.now ≡ makers.name_of origin.entry }
-{
-    match origin {
-        KeywordOrigin::Own(name) => name,
-        KeywordOrigin::Builtin(name) => name,
-    }
 }
 
 fn first_step<A, B>(step: MakerStep<A>) -> MakerStep<Both<A, B>>
@@ -129,7 +119,7 @@ impl<A: Validate, B: Validate, S: KeywordTable<A>, T: KeywordTable<B>> KeywordTa
         vocabularies: &VocabularySet,
         formats: bool,
     ) -> Result<Both<S::Maker, T::Maker>, OutOfMemory> {
-        if goes_first(&self.first, self.first_names, name_of(origin)) {
+        if goes_first(&self.first, self.first_names, origin.name()) {
             let maker = self
                 .first
                 .begin(alloc, origin, object, draft, vocabularies, formats)?;

@@ -100,7 +100,14 @@ fn beside_maker<K: Validate>(
     }
 }
 
-fn maker_of<K: Validate>(
+/// Returns the maker of what a member with this name and value makes.
+///
+/// A refusal shows the value, and its location is the keyword's.
+///
+/// # Errors
+///
+/// Out of memory.
+pub fn maker_of<K: Validate>(
     alloc: Global,
     name: &str,
     value: &Value,
@@ -168,12 +175,7 @@ impl<K: Validate, T: MakesByObject<K>> KeywordTable<K> for TableByObject<T> {
         _vocabularies: &VocabularySet,
         _formats: bool,
     ) -> Result<PathsMaker<K>, OutOfMemory> {
-        match origin {
-            KeywordOrigin::Own(name) => member_maker(&self.keywords, alloc, name, object, draft),
-            KeywordOrigin::Builtin(name) => {
-                member_maker(&self.keywords, alloc, name, object, draft)
-            }
-        }
+        member_maker(&self.keywords, alloc, origin.name(), object, draft)
     }
 
     fn turn(

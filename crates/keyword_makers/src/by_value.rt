@@ -177,10 +177,7 @@ impl<K: Validate, T: MakesByValue<K>> KeywordTable<K> for TableByValue<T> {
         _vocabularies: &VocabularySet,
         _formats: bool,
     ) -> Result<PathsMaker<K>, OutOfMemory> {
-        match origin {
-            KeywordOrigin::Own(name) => member_maker(&self.keywords, alloc, name, object),
-            KeywordOrigin::Builtin(name) => member_maker(&self.keywords, alloc, name, object),
-        }
+        member_maker(&self.keywords, alloc, origin.name(), object)
     }
 
     fn turn(

@@ -16,7 +16,7 @@ mod paths;
 mod refusals;
 
 pub use branches::{Branches, branches_of};
-pub use by_object::{MakesByObject, ObjectKeyword, TableByObject};
+pub use by_object::{MakesByObject, ObjectKeyword, TableByObject, maker_of};
 pub use by_value::{Children, MakesByValue, MemberKeyword, TableByValue};
 pub use lists::{each_schema, list_length};
 pub use maker::{Ending, PathsMaker, asks_for, each_item, ends, only_child};

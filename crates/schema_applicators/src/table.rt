@@ -2,6 +2,7 @@
 ghost use Rattle.std.specs.Prelude.{IfOk};
 ghost use Rattle.serde_json.specs.Find.{get_member};
 ghost use Rattle.serde_json.specs.View.{view};
+ghost use Rattle.schema_drafts.specs.KeywordViews.{builtin_text};
 ghost use Rattle.schema_applicators.specs.Makers.{member_script, value_script};
 ghost use Rattle.keyword_makers.specs.MakerViews.{waiting_of, Begins};
 ghost use Rattle.schema_applicators.specs.Shapes.{shape_of};
@@ -11,7 +12,7 @@ use crate::applicator::Applicator;
 use keyword_makers::{
     Ending, PathsMaker, asks_for, branches_of, each_schema, ends, list_length, only_child, value_in,
 };
-use schema_drafts::{Draft, VocabularySet};
+use schema_drafts::{BuiltinKeyword, Draft, VocabularySet};
 use schema_reports::OutOfMemory;
 use schema_traits::{KeywordOrigin, KeywordTable, MakerReply, MakerStep};
 use serde_json::{Map, Value};
@@ -29,30 +30,70 @@ pub struct ApplicatorTable {}
 /// Returns the maker of a keyword with this value.
 fn value_maker(
     alloc: Global,
-    name: &str,
+    keyword: BuiltinKeyword,
     value: &Value,
     object: &Map<String, Value>,
 ) -> Result<PathsMaker<Applicator>, OutOfMemory>
-    ensures maker { IfOk result (Begins shape_of (value_script (fields object.now) name.now (view value.now))) }
+    ensures maker { IfOk result (Begins shape_of (value_script (fields object.now) (builtin_text keyword) (view value.now))) }
 {
-    if name == "allOf" {
-        return each_schema(alloc, name, value, Applicator::AllOf(list_length(value)));
+    let name = keyword.as_str();
+    match keyword {
+        BuiltinKeyword::AllOf => {
+            each_schema(alloc, name, value, Applicator::AllOf(list_length(value)))
+        }
+        BuiltinKeyword::AnyOf => {
+            each_schema(alloc, name, value, Applicator::AnyOf(list_length(value)))
+        }
+        BuiltinKeyword::OneOf => {
+            each_schema(alloc, name, value, Applicator::OneOf(list_length(value)))
+        }
+        BuiltinKeyword::Not => only_child(alloc, name, Applicator::Not(value.clone()?)),
+        BuiltinKeyword::If => {
+            let branches = branches_of(alloc, name, object)?;
+            let keyword = Applicator::If(branches.accepted, branches.refused);
+            Ok(asks_for(branches.paths, keyword))
+        }
+        // Other tables make these, or none does.
+        BuiltinKeyword::TypeKeyword
+        | BuiltinKeyword::Const
+        | BuiltinKeyword::Enum
+        | BuiltinKeyword::Minimum
+        | BuiltinKeyword::Maximum
+        | BuiltinKeyword::ExclusiveMinimum
+        | BuiltinKeyword::ExclusiveMaximum
+        | BuiltinKeyword::MultipleOf
+        | BuiltinKeyword::MinLength
+        | BuiltinKeyword::MaxLength
+        | BuiltinKeyword::MinItems
+        | BuiltinKeyword::MaxItems
+        | BuiltinKeyword::MinProperties
+        | BuiltinKeyword::MaxProperties
+        | BuiltinKeyword::DependentRequired
+        | BuiltinKeyword::UniqueItems => Ok(ends(alloc, Ending::Nothing)),
+        BuiltinKeyword::Required
+        | BuiltinKeyword::Pattern
+        | BuiltinKeyword::Properties
+        | BuiltinKeyword::PropertyNames
+        | BuiltinKeyword::Items
+        | BuiltinKeyword::PrefixItems => Ok(ends(alloc, Ending::Nothing)),
+        BuiltinKeyword::PatternProperties | BuiltinKeyword::AdditionalProperties => Ok(ends(
+            alloc,
+            Ending::Nothing,
+        )),
+        BuiltinKeyword::AdditionalItems
+        | BuiltinKeyword::Contains
+        | BuiltinKeyword::Dependencies
+        | BuiltinKeyword::DependentSchemas => Ok(ends(alloc, Ending::Nothing)),
+        BuiltinKeyword::Format
+        | BuiltinKeyword::ContentEncoding
+        | BuiltinKeyword::ContentMediaType
+        | BuiltinKeyword::ContentSchema => Ok(ends(alloc, Ending::Nothing)),
+        BuiltinKeyword::UnevaluatedProperties
+        | BuiltinKeyword::UnevaluatedItems
+        | BuiltinKeyword::Ref
+        | BuiltinKeyword::RecursiveRef
+        | BuiltinKeyword::DynamicRef => Ok(ends(alloc, Ending::Nothing)),
     }
-    if name == "anyOf" {
-        return each_schema(alloc, name, value, Applicator::AnyOf(list_length(value)));
-    }
-    if name == "oneOf" {
-        return each_schema(alloc, name, value, Applicator::OneOf(list_length(value)));
-    }
-    if name == "not" {
-        return only_child(alloc, name, Applicator::Not(value.clone()?));
-    }
-    if name == "if" {
-        let branches = branches_of(alloc, name, object)?;
-        let keyword = Applicator::If(branches.accepted, branches.refused);
-        return Ok(asks_for(branches.paths, keyword));
-    }
-    Ok(ends(alloc, Ending::Nothing))
 }
 
 /// Returns the maker of an object's member.
@@ -60,13 +101,14 @@ fn value_maker(
 /// It makes nothing if the member is missing.
 fn member_maker(
     alloc: Global,
-    name: &str,
+    keyword: BuiltinKeyword,
     object: &Map<String, Value>,
 ) -> Result<PathsMaker<Applicator>, OutOfMemory>
-    ensures maker { IfOk result (Begins shape_of (member_script (fields object.now) name.now (get_member name.now (fields object.now)))) }
+    ensures maker { IfOk result (Begins shape_of (member_script (fields object.now) (builtin_text keyword)
+        (get_member (builtin_text keyword) (fields object.now)))) }
 {
-    match value_in(object, name) {
-        Some(value) => value_maker(alloc, name, value, object),
+    match value_in(object, keyword.as_str()) {
+        Some(value) => value_maker(alloc, keyword, value, object),
         None => Ok(ends(alloc, Ending::Nothing)),
     }
 }
@@ -99,7 +141,7 @@ impl KeywordTable<Applicator> for ApplicatorTable {
     ) -> Result<PathsMaker<Applicator>, OutOfMemory> {
         match origin {
             KeywordOrigin::Own(_) => Ok(ends(alloc, Ending::Nothing)),
-            KeywordOrigin::Builtin(name) => member_maker(alloc, name, object),
+            KeywordOrigin::Builtin(entry) => member_maker(alloc, entry.keyword, object),
         }
     }
 

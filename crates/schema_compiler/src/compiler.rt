@@ -7,7 +7,8 @@
 //! `vocabularies`, `makers`, `targets`, `entries` and `annotations`, and references in `ref_`.
 //! Keys, contexts, subschemas, the targets of references, and validation by meta validators belong
 //! to `schema_keys` and are re-exported.
-ghost use Rattle.std.specs.Prelude.{IfErr, IfOk, OnOk};
+ghost use Rattle.std.specs.Prelude.{◌≡◌, IfErr, IfOk, OnOk, string_bytes};
+ghost use Rattle.schema_traits.specs.MakerViews.{is_own, name_of};
 ghost use Rattle.schema_keys.specs.Alone.{RefusesVocabularies};
 ghost use Rattle.schema_compiler.specs.Compilation.{RefusesAlone, RefusesInOrder, RefusesRoot};
 ghost use Rattle.schema_keys.specs.Compiling.{Each};
@@ -19,18 +20,20 @@ ghost use Rattle.schema_compiler.specs.Gives.{GivesObject, GivesPlan, GivesTarge
 
 use crate::compiler::annotations::{absorb, object_of, without};
 use crate::compiler::compilation::{Compilation, PlannedNode};
-use crate::compiler::entries::{entry_named, insert_by_priority, node_alone};
+use crate::compiler::entries::{EntryHead, entry_named, insert_by_priority, node_alone};
 use crate::compiler::makers::keep_edge;
 use crate::compiler::reservations::ReservedNode;
 use crate::compiler::setup::Compiler;
-use schema_drafts::{CUSTOM_PRIORITY, REF_PRIORITY};
+use schema_drafts::{BuiltinEntry, BuiltinKeyword, CUSTOM_PRIORITY, KeywordForm, REF_PRIORITY};
 use schema_keys::{
     BuildError, CompileOptions, Context, Reading, ReferenceKind, SchemaKey, find,
     object_of as object_in, reference_kind, value_of,
 };
 use schema_node_table::{Entry, EntryForm, NodeForm};
 use schema_reports::{Location, LocationSegment};
-use schema_traits::{Edge, KeywordTable, MakerReply, MakerStep, Resolver, SchemaPath, Validate};
+use schema_traits::{
+    Edge, KeywordOrigin, KeywordTable, MakerReply, MakerStep, Resolver, SchemaPath, Validate,
+};
 use serde_json::{Map, Value};
 use std::alloc::Global;
 use std::rc::Rc;
@@ -147,16 +150,6 @@ pub fn compile_subschema<R: Resolver, K: Validate, T: KeywordTable<K>>(
 struct ObjectKeywords<K> {
     entries: Vec<Entry<K>>,
     annotating: Map<String, Value>,
-}
-
-// What is known of an entry before its maker has run: whether the table's own keyword makes it, and
-// its name, its priority and its kind.
-#[derive(Clone, Copy)]
-struct EntryHead<'n> {
-    is_own: bool,
-    name: &'n String,
-    priority: u8,
-    is_leaf: bool,
 }
 
 impl<'p, R: Resolver, T> Compiler<'p, R, T> {
@@ -286,14 +279,16 @@ impl<'p, R: Resolver, T> Compiler<'p, R, T> {
         match context.lone_reference(members) {
             Some(value) => {
                 let name = String::from_str(self.alloc, "$ref")?;
-                let entry = self.reference_by(
-                    compiled,
-                    key,
-                    &name,
-                    REF_PRIORITY,
-                    ReferenceKind::Ref,
-                    value,
-                )?;
+                let head = EntryHead {
+                    origin: KeywordOrigin::Builtin(BuiltinEntry {
+                        keyword: BuiltinKeyword::Ref,
+                        form: KeywordForm::Plain,
+                    }),
+                    name: &name,
+                    priority: REF_PRIORITY,
+                    is_leaf: false,
+                };
+                let entry = self.reference_by(compiled, key, head, ReferenceKind::Ref, value)?;
                 Ok(node_alone(self.alloc, entry)?)
             }
             None => {
@@ -356,7 +351,7 @@ impl<'p, R: Resolver, T> Compiler<'p, R, T> {
         let text = name.as_str();
         if self.table.owns(text) {
             let head = EntryHead {
-                is_own: true,
+                origin: KeywordOrigin::Own(text),
                 name,
                 priority: CUSTOM_PRIORITY,
                 is_leaf: false,
@@ -371,18 +366,18 @@ impl<'p, R: Resolver, T> Compiler<'p, R, T> {
         };
         match context.builtin_row(text) {
             None => Ok(None),
-            Some(row) => match reference_kind(text) {
-                Some(kind) => self.reference_by(compiled, key, name, row.priority, kind, value),
-                None => {
-                    let head = EntryHead {
-                        is_own: false,
-                        name,
-                        priority: row.priority,
-                        is_leaf: row.is_leaf,
-                    };
-                    self.make_entry(compiled, key, members, head, absorbed)
+            Some(row) => {
+                let head = EntryHead {
+                    origin: KeywordOrigin::Builtin(row.entry),
+                    name,
+                    priority: row.priority,
+                    is_leaf: row.is_leaf,
+                };
+                match reference_kind(row.entry.keyword) {
+                    Some(kind) => self.reference_by(compiled, key, head, kind, value),
+                    None => self.make_entry(compiled, key, members, head, absorbed),
                 }
-            },
+            }
         }
     }
 
@@ -399,13 +394,14 @@ impl<'p, R: Resolver, T> Compiler<'p, R, T> {
     ) -> Result<Option<Entry<K>>, BuildError>
     where
         T: KeywordTable<K>,
-        requires { MayMake R.Resolver T.KeywordTable K.Validate self.now compiled.old key.now members.now.entries }
+        requires may { MayMake R.Resolver T.KeywordTable K.Validate self.now compiled.old key.now members.now.entries }
+        requires named { name_of head.origin ≡ string_bytes head.name.now }
         ensures { GivesMade R.Resolver T.KeywordTable K.Validate self.now
-            compiled.old compiled.new key.now members.now.entries head.entry.is_own head.entry.name.now
+            compiled.old compiled.new key.now members.now.entries (is_own head.entry.origin) head.entry.name.now
             head.entry.priority head.entry.is_leaf absorbed.old.items absorbed.new.items result }
     {
         let first = compiled.reservations.len();
-        let mut maker = self.maker_of(key, members, head.is_own, head.name)?;
+        let mut maker = self.maker_of(key, members, head)?;
         let mut children = Vec::new(self.alloc);
         let mut reply = MakerReply::Begun;
         loop {
@@ -438,7 +434,7 @@ impl<'p, R: Resolver, T> Compiler<'p, R, T> {
                         .reservations
                         .give_up(first, ReservedNode::OfItsKeyword);
                     let form = EntryForm::Keyword(keyword, children);
-                    return Ok(Some(entry_named(head.name, head.priority, head.is_leaf, form)?));
+                    return Ok(Some(entry_named(head, form)?));
                 }
                 MakerStep::Nothing => {
                     compiled

@@ -1,16 +1,32 @@
 //! Keywords that are references.
+ghost use Rattle.std.specs.Prelude.{◌≡◌, string_bytes};
+ghost use Rattle.schema_traits.specs.MakerViews.{name_of};
 ghost use Rattle.schema_keys.specs.declared.references.ReferenceKind.TheVariants.{Dynamic, Recursive, Ref};
 ghost use Rattle.schema_compiler.specs.MayCompile.{MayRefer};
 ghost use Rattle.schema_compiler.specs.Gives.{GivesReference};
 
 use crate::compiler::compilation::Compilation;
-use crate::compiler::entries::entry_named;
+use crate::compiler::entries::{EntryHead, entry_named};
 use crate::compiler::setup::Compiler;
 use schema_keys::{BuildError, Context, SchemaKey};
 pub use schema_keys::{RefTarget, ReferenceKind};
 use schema_node_table::{Entry, EntryForm};
-use schema_traits::{KeywordTable, Resolver, Validate};
+use schema_traits::{KeywordOrigin, KeywordTable, Resolver, Validate};
 use serde_json::Value;
+
+// The head of a reference under a keyword with this name, which is copied.
+fn head_of(name: &String, priority: u8) -> EntryHead<'_>
+    ensures named { name_of result.origin ≡ string_bytes result.name.now }
+    ensures name { result.name.now ≡ name.now }
+    ensures priority { result.priority ≡ priority }
+{
+    EntryHead {
+        origin: KeywordOrigin::Own(name.as_str()),
+        name,
+        priority,
+        is_leaf: false,
+    }
+}
 
 impl<'p, R: Resolver, T> Compiler<'p, R, T> {
     /// Compiles a `$ref` with this value, and what it leads to.
@@ -37,7 +53,8 @@ impl<'p, R: Resolver, T> Compiler<'p, R, T> {
         ensures { GivesReference R.Resolver T.KeywordTable K.Validate self.now compiled.old compiled.new key.now
             name.now priority Ref value.now result }
     {
-        self.reference_by(compiled, key, name, priority, ReferenceKind::Ref, value)
+        let head = head_of(name, priority);
+        self.reference_by(compiled, key, head, ReferenceKind::Ref, value)
     }
 
     /// Compiles a `$dynamicRef` with this value, and what it leads to.
@@ -64,7 +81,8 @@ impl<'p, R: Resolver, T> Compiler<'p, R, T> {
         ensures { GivesReference R.Resolver T.KeywordTable K.Validate self.now compiled.old compiled.new key.now
             name.now priority Dynamic value.now result }
     {
-        self.reference_by(compiled, key, name, priority, ReferenceKind::Dynamic, value)
+        let head = head_of(name, priority);
+        self.reference_by(compiled, key, head, ReferenceKind::Dynamic, value)
     }
 
     /// Compiles a `$recursiveRef` with this value, and what it leads to.
@@ -90,32 +108,28 @@ impl<'p, R: Resolver, T> Compiler<'p, R, T> {
         ensures { GivesReference R.Resolver T.KeywordTable K.Validate self.now compiled.old compiled.new key.now
             name.now priority Recursive value.now result }
     {
-        self.reference_by(
-            compiled,
-            key,
-            name,
-            priority,
-            ReferenceKind::Recursive,
-            value,
-        )
+        let head = head_of(name, priority);
+        self.reference_by(compiled, key, head, ReferenceKind::Recursive, value)
     }
 
     /// Compiles the reference of this kind under a keyword; `None` if it is skipped.
+    ///
+    /// The keyword is not a leaf, whatever its head says.
     #[cycle(compile)]
     pub(crate) fn reference_by<K: Validate>(
         &self,
         compiled: &mut Compilation<R::State, K>,
         key: &SchemaKey<R::State>,
-        name: &String,
-        priority: u8,
+        head: EntryHead<'_>,
         kind: ReferenceKind,
         value: &Value,
     ) -> Result<Option<Entry<K>>, BuildError>
     where
         T: KeywordTable<K>,
-        requires { MayRefer R.Resolver T.KeywordTable K.Validate self.now compiled.old }
+        requires may { MayRefer R.Resolver T.KeywordTable K.Validate self.now compiled.old }
+        requires named { name_of head.origin ≡ string_bytes head.name.now }
         ensures { GivesReference R.Resolver T.KeywordTable K.Validate self.now
-            compiled.old compiled.new key.now name.now priority kind value.now result }
+            compiled.old compiled.new key.now head.entry.name.now head.entry.priority kind value.now result }
     {
         let context = Context {
             alloc: self.alloc,
@@ -123,12 +137,15 @@ impl<'p, R: Resolver, T> Compiler<'p, R, T> {
             options: self.options,
             key,
         };
-        let text = context.text_of(name, value)?;
-        match self.reference_edge(compiled, key, name, kind, text)? {
+        let text = context.text_of(head.name, value)?;
+        match self.reference_edge(compiled, key, head.name, kind, text)? {
             None => Ok(None),
             Some(edge) => {
-                let form = EntryForm::Reference(edge);
-                Ok(Some(entry_named(name, priority, false, form)?))
+                let head = EntryHead {
+                    is_leaf: false,
+                    ..head
+                };
+                Ok(Some(entry_named(head, EntryForm::Reference(edge))?))
             }
         }
     }

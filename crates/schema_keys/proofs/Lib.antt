@@ -8,3 +8,4 @@ pub mod DocumentPlaces
 pub mod PlaceNames
 pub mod MaskedDocuments
 pub mod CheckedDocuments
+pub mod OtherNames

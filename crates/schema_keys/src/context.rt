@@ -10,7 +10,7 @@ ghost use Rattle.theory_definitions.specs.Instance.{member_of};
 ghost use Rattle.theory_definitions.specs.Pointer.{joined};
 ghost use Rattle.theory_definitions.specs.Drafts.{ref_stands_alone};
 ghost use Rattle.schema_drafts.specs.KeywordTable.{is_in_force};
-ghost use Rattle.schema_drafts.specs.KeywordViews.{vocabulary_of};
+ghost use Rattle.schema_drafts.specs.KeywordViews.{builtin_text, vocabulary_of};
 ghost use Rattle.theory_definitions.specs.Plan.{encoded};
 ghost use Rattle.schema_keys.specs.Builtins.{builtin, row_of};
 ghost use Rattle.schema_keys.specs.Dialects.{asserts_formats, integer_valued_numbers};
@@ -177,6 +177,7 @@ impl<'p, 'c, R: Resolver> Context<'p, 'c, R> {
     #[tactic(auto, unfolding(crate::specs::Builtins::builtin))]
     pub fn builtin_row(&self, name: &str) -> Option<BuiltinRow>
         ensures row { option_map (row_of name.now) result ≡ builtin (draft_here self.now) self.now.key.now.vocabularies name.now }
+        ensures named { IfSome result (λ r. builtin_text r.entry.keyword ≡ name.now) }
     {
         builtin_row(self.draft(), &self.key.vocabularies, name)
     }

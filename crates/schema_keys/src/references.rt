@@ -5,6 +5,7 @@ ghost use Rattle.percent_encoding.specs.Percent.{percent_decode};
 ghost use Rattle.theory_definitions.specs.Pointer.{pointer_to};
 ghost use Rattle.theory_definitions.specs.Plan.{fragment, reference_named};
 ghost use Rattle.theory_definitions.specs.Plan.{is_recursive_ref};
+ghost use Rattle.schema_drafts.specs.KeywordViews.{builtin_text};
 ghost use Rattle.schema_traits.specs.ResolverViews.{found_of, place_of};
 ghost use Rattle.schema_keys.specs.KeyViews.{key_of, kind_of};
 ghost use Rattle.schema_keys.specs.Compiling.{skips};
@@ -18,6 +19,7 @@ use crate::error::BuildError;
 use crate::key::SchemaKey;
 use crate::text::fragment_of;
 use percent_encoding::{decode_utf8_lossy, percent_decode};
+use schema_drafts::BuiltinKeyword;
 use schema_reports::{Location, OutOfMemory};
 use schema_traits::{LookupError, Resolver, Target};
 use std::alloc::Global;
@@ -42,18 +44,16 @@ impl ReferenceKind {
     }
 }
 
-/// Returns the reference keyword with this name, if there is one.
-pub fn reference_kind(name: &str) -> Option<ReferenceKind>
-    ensures kind { option_map kind_of result ≡ reference_named name.now }
+/// Returns the kind of a keyword that is a reference; `None` for any other keyword.
+#[tactic(auto, using(crate::proofs::OtherNames::not_ref, crate::proofs::OtherNames::not_dynamic_ref, crate::proofs::OtherNames::not_recursive_ref))]
+pub fn reference_kind(keyword: BuiltinKeyword) -> Option<ReferenceKind>
+    ensures kind { option_map kind_of result ≡ reference_named (builtin_text keyword) }
 {
-    if name == "$ref" {
-        Some(ReferenceKind::Ref)
-    } else if name == "$dynamicRef" {
-        Some(ReferenceKind::Dynamic)
-    } else if name == "$recursiveRef" {
-        Some(ReferenceKind::Recursive)
-    } else {
-        None
+    match keyword {
+        BuiltinKeyword::Ref => Some(ReferenceKind::Ref),
+        BuiltinKeyword::DynamicRef => Some(ReferenceKind::Dynamic),
+        BuiltinKeyword::RecursiveRef => Some(ReferenceKind::Recursive),
+        _ => None,
     }
 }
 

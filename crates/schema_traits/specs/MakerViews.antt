@@ -5,6 +5,7 @@ use Rattle.serde_json.specs.Written.{members_have_float}
 use Rattle.theory_definitions.specs.Instance.{Text, Place, member_of}
 use Rattle.theory_definitions.specs.Making as spec
 use Rattle.theory_definitions.specs.Reports.{told_error}
+use Rattle.schema_drafts.specs.KeywordViews.{builtin_text}
 use Rattle.schema_reports.specs.ReportViews.{owned_error_of}
 use Rattle.schema_traits.specs.declared.table.KeywordOrigin.{KeywordOrigin}
 use Rattle.schema_traits.specs.declared.table.KeywordOrigin.TheVariants.{Own, Builtin}
@@ -17,11 +18,11 @@ use Rattle.schema_traits.specs.declared.table.MakerStep.TheVariants.{Compile, Re
 
 abbrev pub is_own : KeywordOrigin → Bool
 is_own (Own name) = true
-is_own (Builtin name) = false
+is_own (Builtin e) = false
 
 abbrev pub name_of : KeywordOrigin → Text
 name_of (Own name) = name.now
-name_of (Builtin name) = name.now
+name_of (Builtin e) = builtin_text e.keyword
 
 abbrev pub purpose_of : PendingKind → spec.Purpose
 purpose_of kind.Properties = spec.for_properties

@@ -12,16 +12,28 @@ ghost use Rattle.schema_traits.specs.MakerViews.{Waiting, begun, is_own, name_of
 use crate::keyword::Validate;
 use crate::numbers::PendingSchemaNode;
 use crate::schema_place::SchemaPath;
-use schema_drafts::{Draft, VocabularySet};
+use schema_drafts::{BuiltinEntry, Draft, VocabularySet};
 use schema_reports::{OutOfMemory, OwnedError};
 use serde_json::{Map, Value};
 use std::alloc::Global;
 
-/// The name of a keyword that a maker makes: the table's own, or built in.
+/// The keyword that a maker makes: the table's own, by its name, or one of the standard.
 #[derive(Clone, Copy)]
 pub enum KeywordOrigin<'s> {
     Own(&'s str),
-    Builtin(&'s str),
+    Builtin(BuiltinEntry),
+}
+
+impl<'s> KeywordOrigin<'s> {
+    /// Returns the keyword's name, as written in schemas.
+    pub fn name(self) -> &'s str
+        ensures name { result.now ≡ name_of self.entry }
+    {
+        match self {
+            KeywordOrigin::Own(name) => name,
+            KeywordOrigin::Builtin(entry) => entry.keyword.as_str(),
+        }
+    }
 }
 
 /// What a maker reserves a number for.

@@ -2,7 +2,7 @@
 ghost use Rattle.std.specs.Prelude.{IfOk};
 ghost use Rattle.serde_json.specs.Find.{get_member};
 ghost use Rattle.serde_json.specs.View.{view};
-ghost use Rattle.schema_drafts.specs.KeywordViews.{draft_of};
+ghost use Rattle.schema_drafts.specs.KeywordViews.{builtin_text, draft_of};
 ghost use Rattle.keyword_makers.specs.MakerViews.{waiting_of, Begins};
 ghost use Rattle.standard_applicators.specs.Makers.{additional_items_script, after_listed, contains_script, dependent_schemas_script};
 ghost use Rattle.standard_applicators.specs.Makers.{dependencies_script, items_script, member_script, value_script};
@@ -20,7 +20,7 @@ use keyword_makers::{
     Ending, PathsMaker, asks_for, each_schema, ends, list_length, malformed, names_of, only_child,
     value_in, values_below,
 };
-use schema_drafts::{Draft, VocabularySet};
+use schema_drafts::{BuiltinKeyword, Draft, VocabularySet};
 use schema_reports::OutOfMemory;
 use schema_traits::{KeywordOrigin, KeywordTable, MakerReply, MakerStep};
 use serde_json::{Map, Value};
@@ -149,29 +149,64 @@ fn additional_items_maker(
 /// Returns the maker of a keyword with this value.
 fn value_maker(
     alloc: Global,
-    name: &str,
+    keyword: BuiltinKeyword,
     value: &Value,
     object: &Map<String, Value>,
     draft: Draft,
 ) -> Result<Maker, OutOfMemory>
-    ensures maker { IfOk result (Begins (λ k. k) (value_script (draft_of draft) (fields object.now) name.now (view value.now))) }
+    ensures maker { IfOk result (Begins (λ k. k) (value_script (draft_of draft) (fields object.now)
+        (builtin_text keyword) (view value.now))) }
 {
-    if name == "contains" {
-        return contains_maker(alloc, name, object, draft);
+    let name = keyword.as_str();
+    match keyword {
+        BuiltinKeyword::Contains => contains_maker(alloc, name, object, draft),
+        BuiltinKeyword::DependentSchemas => dependent_schemas_maker(alloc, name, value),
+        BuiltinKeyword::Dependencies => dependencies_maker(alloc, name, value),
+        BuiltinKeyword::Items => items_maker(alloc, name, value, object, draft),
+        BuiltinKeyword::AdditionalItems => {
+            additional_items_maker(alloc, name, value, object, draft)
+        }
+        // Other tables make these, or none does.
+        BuiltinKeyword::TypeKeyword
+        | BuiltinKeyword::Const
+        | BuiltinKeyword::Enum
+        | BuiltinKeyword::Minimum
+        | BuiltinKeyword::Maximum
+        | BuiltinKeyword::ExclusiveMinimum
+        | BuiltinKeyword::ExclusiveMaximum
+        | BuiltinKeyword::MultipleOf
+        | BuiltinKeyword::MinLength
+        | BuiltinKeyword::MaxLength
+        | BuiltinKeyword::MinItems
+        | BuiltinKeyword::MaxItems
+        | BuiltinKeyword::MinProperties
+        | BuiltinKeyword::MaxProperties
+        | BuiltinKeyword::DependentRequired
+        | BuiltinKeyword::UniqueItems => Ok(ends(alloc, Ending::Nothing)),
+        BuiltinKeyword::Required
+        | BuiltinKeyword::Pattern
+        | BuiltinKeyword::Properties
+        | BuiltinKeyword::PropertyNames
+        | BuiltinKeyword::PrefixItems
+        | BuiltinKeyword::AllOf
+        | BuiltinKeyword::AnyOf
+        | BuiltinKeyword::OneOf
+        | BuiltinKeyword::Not
+        | BuiltinKeyword::If => Ok(ends(alloc, Ending::Nothing)),
+        BuiltinKeyword::PatternProperties | BuiltinKeyword::AdditionalProperties => Ok(ends(
+            alloc,
+            Ending::Nothing,
+        )),
+        BuiltinKeyword::Format
+        | BuiltinKeyword::ContentEncoding
+        | BuiltinKeyword::ContentMediaType
+        | BuiltinKeyword::ContentSchema => Ok(ends(alloc, Ending::Nothing)),
+        BuiltinKeyword::UnevaluatedProperties
+        | BuiltinKeyword::UnevaluatedItems
+        | BuiltinKeyword::Ref
+        | BuiltinKeyword::RecursiveRef
+        | BuiltinKeyword::DynamicRef => Ok(ends(alloc, Ending::Nothing)),
     }
-    if name == "dependentSchemas" {
-        return dependent_schemas_maker(alloc, name, value);
-    }
-    if name == "dependencies" {
-        return dependencies_maker(alloc, name, value);
-    }
-    if name == "items" {
-        return items_maker(alloc, name, value, object, draft);
-    }
-    if name == "additionalItems" {
-        return additional_items_maker(alloc, name, value, object, draft);
-    }
-    Ok(ends(alloc, Ending::Nothing))
 }
 
 /// Returns the maker of an object's member.
@@ -179,15 +214,15 @@ fn value_maker(
 /// It makes nothing if the member is missing.
 fn member_maker(
     alloc: Global,
-    name: &str,
+    keyword: BuiltinKeyword,
     object: &Map<String, Value>,
     draft: Draft,
 ) -> Result<Maker, OutOfMemory>
-    ensures maker { IfOk result (Begins (λ k. k) (member_script (draft_of draft) (fields object.now) name.now (get_member name.now
-        (fields object.now)))) }
+    ensures maker { IfOk result (Begins (λ k. k) (member_script (draft_of draft) (fields object.now) (builtin_text keyword)
+        (get_member (builtin_text keyword) (fields object.now)))) }
 {
-    match value_in(object, name) {
-        Some(value) => value_maker(alloc, name, value, object, draft),
+    match value_in(object, keyword.as_str()) {
+        Some(value) => value_maker(alloc, keyword, value, object, draft),
         None => Ok(ends(alloc, Ending::Nothing)),
     }
 }
@@ -220,7 +255,7 @@ impl KeywordTable<StandardApplicator> for StandardApplicatorTable {
     ) -> Result<Maker, OutOfMemory> {
         match origin {
             KeywordOrigin::Own(_) => Ok(ends(alloc, Ending::Nothing)),
-            KeywordOrigin::Builtin(name) => member_maker(alloc, name, object, draft),
+            KeywordOrigin::Builtin(entry) => member_maker(alloc, entry.keyword, object, draft),
         }
     }
 

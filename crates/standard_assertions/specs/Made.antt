@@ -5,9 +5,10 @@
 use Rattle.std.specs.Prelude.{Bool, None, Option, Some, bytes_eq, codes, false, if◌then◌else◌, true}
 use Rattle.serde_json.specs.Data.{Data, Members}
 use Rattle.serde_json.specs.Find.{as_bool, get_member}
-use Rattle.theory_definitions.specs.Drafts.{Draft}
+use Rattle.theory_definitions.specs.Drafts.{Draft, Vocabularies}
 use Rattle.theory_definitions.specs.Instance.{Text}
-use Rattle.keyword_makers.specs.ByObject.{MadeHere}
+use Rattle.theory_definitions.specs.Making.{Script, nothing, then_end}
+use Rattle.keyword_makers.specs.ByObject.{MadeHere, by_object}
 use Rattle.keyword_makers.specs.declared.by_object.ObjectKeyword.TheVariants as here
 use Rattle.keyword_makers.specs.declared.by_value.Children.TheVariants as children
 use Rattle.standard_basics.specs.declared.counts.CountKind.TheVariants as count
@@ -77,3 +78,8 @@ made draft object name d =
     if bytes_eq name (codes "type") then here_if (type_made (integers_of draft) d)
     else (if bytes_eq name (codes "const") then here_if (Some (assertion.Const d))
     else (if bytes_eq name (codes "enum") then here_if (enum_made d) else made_of_numbers draft object name d))
+
+-- the table owns no name
+abbrev pub assertion_script : Bool → Text → Members → Draft → Vocabularies → Bool → Script Shape
+assertion_script true name object draft vocabularies formats = then_end nothing
+assertion_script false name object draft vocabularies formats = by_object made false name object draft vocabularies formats

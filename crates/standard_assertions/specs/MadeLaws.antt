@@ -1,17 +1,19 @@
--- A keyword that is made from a value without fractions shows none.
+-- A keyword that is made from a value without fractions shows none, and the makers end as they
+-- should.
 use Rattle.std.proofs.Common.{ap}
 use Rattle.std.specs.Prelude.{Bool, List, None, Option, Some, [], bytes_eq, codes, false, if◌then◌else◌, is_some, not, option_map, refl, true, ◌≡◌}
 use Rattle.serde_json.specs.Data.{Data, Members, Num, array, boolean, null, number, object, string, unsigned}
 use Rattle.serde_json.specs.Find.{as_array, as_bool, as_object, get_member}
 use Rattle.serde_json.specs.Written.{has_float}
-use Rattle.theory_definitions.specs.Drafts.{Draft}
+use Rattle.theory_definitions.specs.Drafts.{Draft, Vocabularies}
 use Rattle.theory_definitions.specs.Instance.{Text}
 use Rattle.json_values.specs.Numbers.{less}
-use Rattle.keyword_makers.specs.ByObject.{IsRightHere, IsWholeWhere, MadeHere, right_by_value}
+use Rattle.schema_traits.specs.MakerViews.{MakesRightly}
+use Rattle.keyword_makers.specs.ByObject.{IsRightHere, IsWholeWhere, MadeHere, makes_by_object, right_by_value}
 use Rattle.standard_basics.specs.declared.counts.CountKind.{CountKind}
 use Rattle.standard_basics.specs.declared.counts.CountKind.TheVariants as count
 use Rattle.standard_assertions.specs.Assertions.{Shape, shows_no_fraction}
-use Rattle.standard_assertions.specs.Made.{excludes, here_if, limit_beside, limit_here, made, made_of_counts, made_of_lists, made_of_numbers, unique_made}
+use Rattle.standard_assertions.specs.Made.{assertion_script, excludes, here_if, limit_beside, limit_here, made, made_of_counts, made_of_lists, made_of_numbers, unique_made}
 use Rattle.standard_basics.specs.TypeNames.{type_named, types_of}
 use Rattle.standard_assertions.specs.Values.{count_made, dependents_made, enum_made, has_text_lists, integers_of, is_draft_4, limit_made, multiple_made, size_limit, size_made, type_made}
 use Rattle.standard_assertions.specs.declared.assertion.Assertion.TheVariants as assertion
@@ -132,3 +134,8 @@ module _ (absorbed : Shape → List Text) (none : (m : Shape) → [] ≡ absorbe
   pub made_right : (draft : Draft) (whole : Members) (name : Text) (d : Data) → get_member name whole ≡ Some d
       → IsRightHere absorbed shows_no_fraction whole (made draft whole name d)
   made_right draft whole name d found = right_by_value absorbed shows_no_fraction none whole name d found (made draft whole name d) (made_whole draft whole name d)
+
+  pub makes_rightly : (own : Bool) (name : Text) (object : Members) (draft : Draft) (vocabularies : Vocabularies) (formats : Bool)
+      → MakesRightly absorbed shows_no_fraction object (assertion_script own name object draft vocabularies formats)
+  makes_rightly true name object draft vocabularies formats = tt
+  makes_rightly false name object draft vocabularies formats = makes_by_object absorbed shows_no_fraction made made_right false name object draft vocabularies formats

@@ -1,12 +1,12 @@
 //! The table that makes the assertions.
-ghost use Rattle.std.specs.Prelude.{◌≡◌};
+ghost use Rattle.std.specs.Prelude.{◌≡◌, IfOk};
 ghost use Rattle.serde_json.specs.Find.{as_bool, get_member};
 ghost use Rattle.serde_json.specs.View.{view};
-ghost use Rattle.schema_drafts.specs.KeywordViews.{draft_of};
-ghost use Rattle.keyword_makers.specs.ByObject.{formed};
+ghost use Rattle.schema_drafts.specs.KeywordViews.{builtin_text, draft_of};
+ghost use Rattle.keyword_makers.specs.ByObject.{formed, script_found};
+ghost use Rattle.keyword_makers.specs.MakerViews.{Begins};
 ghost use Rattle.schema_traits.specs.Showing.{Shows};
-ghost use Rattle.standard_assertions.specs.Made.{excludes, here_if, limit_here, made_of_counts, made_of_lists, made_of_numbers};
-ghost use Rattle.standard_assertions.specs.Made.{unique_made};
+ghost use Rattle.standard_assertions.specs.Made.{excludes, here_if, limit_here, made, unique_made};
 ghost use Rattle.standard_assertions.specs.Shapes.{shape_of};
 ghost use Rattle.schema_traits.specs.Readings.{fields};
 
@@ -19,9 +19,10 @@ use crate::values::{
 };
 use json_values::HeldValue;
 use keyword_authoring::Telling;
-use keyword_makers::{Children, MakesByObject, ObjectKeyword, value_in};
-use schema_drafts::Draft;
+use keyword_makers::{Children, Ending, ObjectKeyword, PathsMaker, ends, maker_of, value_in};
+use schema_drafts::{BuiltinKeyword, Draft, VocabularySet};
 use schema_reports::OutOfMemory;
+use schema_traits::{KeywordOrigin, KeywordTable, MakerReply, MakerStep};
 use serde_json::{Map, Value};
 use standard_basics::CountKind;
 use std::alloc::Global;
@@ -29,11 +30,14 @@ use std::alloc::Global;
 /// The keyword that a member of an object makes.
 type Made = ObjectKeyword<Telling<Assertion>>;
 
+/// The maker of these keywords.
+type Maker = PathsMaker<Telling<Assertion>>;
+
 /// Returns a keyword without children, or a refusal of its value.
-fn here_if(made: Option<Assertion>) -> Made
-    ensures here { formed shape_of result ≡ here_if made }
+fn here_if(found: Option<Assertion>) -> Made
+    ensures here { formed shape_of result ≡ here_if found }
 {
-    match made {
+    match found {
         Some(keyword) => ObjectKeyword::Keyword(Telling { keyword }, Children::Childless),
         None => ObjectKeyword::Malformed,
     }
@@ -86,124 +90,165 @@ fn unique_made(value: &Value) -> Made
     }
 }
 
-/// Makes a keyword that limits the number of characters, or `minProperties`.
-fn made_of_counts(draft: Draft, name: &str, value: &Value) -> Made
-    ensures made { formed shape_of result ≡ made_of_counts (draft_of draft) name.now (view value.now) }
-{
-    if name == "minLength" {
-        here_if(count_made(CountKind::MinLength, draft, value))
-    } else if name == "maxLength" {
-        here_if(count_made(CountKind::MaxLength, draft, value))
-    } else if name == "minProperties" {
-        here_if(count_made(CountKind::MinProperties, draft, value))
-    } else {
-        ObjectKeyword::Nothing
-    }
-}
-
-/// Makes a keyword for lists or objects, or one of `made_of_counts`.
-fn made_of_lists(
+/// Makes the keyword of a member with this value.
+fn keyword_made(
     alloc: Global,
-    draft: Draft,
-    name: &str,
+    keyword: BuiltinKeyword,
     value: &Value,
-) -> Result<Made, OutOfMemory>
-    ensures made { Shows (formed shape_of) result (made_of_lists (draft_of draft) name.now (view value.now)) }
-{
-    if name == "minItems" {
-        Ok(here_if(size_made(SizeKind::MinItems, draft, value)))
-    } else if name == "maxItems" {
-        Ok(here_if(size_made(SizeKind::MaxItems, draft, value)))
-    } else if name == "uniqueItems" {
-        Ok(unique_made(value))
-    } else if name == "maxProperties" {
-        Ok(here_if(size_made(SizeKind::MaxProperties, draft, value)))
-    } else if name == "dependentRequired" {
-        Ok(here_if(dependents_made(alloc, value)?))
-    } else {
-        Ok(made_of_counts(draft, name, value))
-    }
-}
-
-/// Makes a keyword for numbers, or one of `made_of_lists`.
-fn made_of_numbers(
-    alloc: Global,
-    draft: Draft,
     object: &Map<String, Value>,
-    name: &str,
-    value: &Value,
+    draft: Draft,
 ) -> Result<Made, OutOfMemory>
-    ensures made { Shows (formed shape_of) result (made_of_numbers (draft_of draft) (fields object.now) name.now (view value.now)) }
+    ensures made { Shows (formed shape_of) result (made (draft_of draft) (fields object.now) (builtin_text keyword) (view value.now)) }
 {
-    if name == "minimum" {
-        let (including, excluding) = (LimitKind::Minimum, LimitKind::MinimumExcluded);
-        Ok(limit_here(
-            including,
-            excluding,
-            "exclusiveMinimum",
-            draft,
-            object,
-            value,
-        ))
-    } else if name == "maximum" {
-        let (including, excluding) = (LimitKind::Maximum, LimitKind::MaximumExcluded);
-        Ok(limit_here(
-            including,
-            excluding,
-            "exclusiveMaximum",
-            draft,
-            object,
-            value,
-        ))
-    } else if name == "exclusiveMinimum" {
-        Ok(here_if(limit_made(LimitKind::ExclusiveMinimum, value)))
-    } else if name == "exclusiveMaximum" {
-        Ok(here_if(limit_made(LimitKind::ExclusiveMaximum, value)))
-    } else if name == "multipleOf" {
-        Ok(here_if(multiple_made(value)))
-    } else {
-        made_of_lists(alloc, draft, name, value)
+    match keyword {
+        BuiltinKeyword::TypeKeyword => Ok(here_if(type_made(alloc, integers_of(draft), value)?)),
+        BuiltinKeyword::Const => {
+            let constant = HeldValue::of(alloc, value)?;
+            Ok(here_if(Some(Assertion::Const(constant))))
+        }
+        BuiltinKeyword::Enum => Ok(here_if(enum_made(alloc, value)?)),
+        BuiltinKeyword::Minimum => {
+            let (including, excluding) = (LimitKind::Minimum, LimitKind::MinimumExcluded);
+            Ok(limit_here(
+                including,
+                excluding,
+                "exclusiveMinimum",
+                draft,
+                object,
+                value,
+            ))
+        }
+        BuiltinKeyword::Maximum => {
+            let (including, excluding) = (LimitKind::Maximum, LimitKind::MaximumExcluded);
+            Ok(limit_here(
+                including,
+                excluding,
+                "exclusiveMaximum",
+                draft,
+                object,
+                value,
+            ))
+        }
+        BuiltinKeyword::ExclusiveMinimum => {
+            Ok(here_if(limit_made(LimitKind::ExclusiveMinimum, value)))
+        }
+        BuiltinKeyword::ExclusiveMaximum => {
+            Ok(here_if(limit_made(LimitKind::ExclusiveMaximum, value)))
+        }
+        BuiltinKeyword::MultipleOf => Ok(here_if(multiple_made(value))),
+        BuiltinKeyword::MinItems => Ok(here_if(size_made(SizeKind::MinItems, draft, value))),
+        BuiltinKeyword::MaxItems => Ok(here_if(size_made(SizeKind::MaxItems, draft, value))),
+        BuiltinKeyword::UniqueItems => Ok(unique_made(value)),
+        BuiltinKeyword::MaxProperties => {
+            Ok(here_if(size_made(SizeKind::MaxProperties, draft, value)))
+        }
+        BuiltinKeyword::DependentRequired => Ok(here_if(dependents_made(alloc, value)?)),
+        BuiltinKeyword::MinLength => Ok(here_if(count_made(CountKind::MinLength, draft, value))),
+        BuiltinKeyword::MaxLength => Ok(here_if(count_made(CountKind::MaxLength, draft, value))),
+        BuiltinKeyword::MinProperties => {
+            Ok(here_if(count_made(CountKind::MinProperties, draft, value)))
+        }
+        // Other tables make these, or none does.
+        BuiltinKeyword::Required
+        | BuiltinKeyword::Pattern
+        | BuiltinKeyword::Properties
+        | BuiltinKeyword::PropertyNames
+        | BuiltinKeyword::Items
+        | BuiltinKeyword::PrefixItems
+        | BuiltinKeyword::AllOf
+        | BuiltinKeyword::AnyOf
+        | BuiltinKeyword::OneOf
+        | BuiltinKeyword::Not
+        | BuiltinKeyword::If => Ok(ObjectKeyword::Nothing),
+        BuiltinKeyword::PatternProperties | BuiltinKeyword::AdditionalProperties => Ok(
+            ObjectKeyword::Nothing,
+        ),
+        BuiltinKeyword::AdditionalItems
+        | BuiltinKeyword::Contains
+        | BuiltinKeyword::Dependencies
+        | BuiltinKeyword::DependentSchemas => Ok(ObjectKeyword::Nothing),
+        BuiltinKeyword::Format
+        | BuiltinKeyword::ContentEncoding
+        | BuiltinKeyword::ContentMediaType
+        | BuiltinKeyword::ContentSchema => Ok(ObjectKeyword::Nothing),
+        BuiltinKeyword::UnevaluatedProperties
+        | BuiltinKeyword::UnevaluatedItems
+        | BuiltinKeyword::Ref
+        | BuiltinKeyword::RecursiveRef
+        | BuiltinKeyword::DynamicRef => Ok(ObjectKeyword::Nothing),
     }
 }
 
-/// A table that makes an assertion from its name and value.
+/// Returns the maker of an object's member.
 ///
-/// Draft 4's `minimum` and `maximum` depend on a member beside them too. The table owns no name.
+/// It makes nothing if the member is missing.
+fn member_maker(
+    alloc: Global,
+    keyword: BuiltinKeyword,
+    object: &Map<String, Value>,
+    draft: Draft,
+) -> Result<Maker, OutOfMemory>
+    ensures maker { IfOk result (Begins shape_of (script_found made (draft_of draft) (fields object.now) (builtin_text keyword)
+        (get_member (builtin_text keyword) (fields object.now)))) }
+{
+    let name = keyword.as_str();
+    match value_in(object, name) {
+        Some(value) => {
+            let made = keyword_made(alloc, keyword, value, object, draft)?;
+            maker_of(alloc, name, value, object, made)
+        }
+        None => Ok(ends(alloc, Ending::Nothing)),
+    }
+}
+
+/// A table that makes each assertion from its value.
+///
+/// Draft 4's `minimum` and `maximum` depend on a member beside them too. A malformed value is
+/// refused; the error shows the value and is located at the keyword. The table owns no name.
 #[derive(Drop)]
 pub struct AssertionTable {}
 
-impl MakesByObject<Telling<Assertion>> for AssertionTable {
+impl KeywordTable<Telling<Assertion>> for AssertionTable {
     ghost use Rattle.std.specs.Prelude.{false, refl};
-    ghost use Rattle.standard_assertions.specs.Made.{made};
-    ghost use Rattle.standard_assertions.specs.MadeLaws.{made_right};
+    ghost use Rattle.keyword_makers.specs.MakerViews.{waiting_of};
+    ghost use Rattle.standard_assertions.specs.Made.{assertion_script};
+    ghost use Rattle.standard_assertions.specs.MadeLaws.{makes_rightly};
 
-    ghost owned = { λ t name. false };
+    type Maker = Maker;
 
-    ghost made = { λ t. made };
+    ghost owned = { λ _ name. false };
+
+    ghost script = { λ _. assertion_script };
+
+    ghost waiting = { waiting_of shape_of };
 
     fn owns(&self, _name: &str) -> bool {
         false
     }
 
-    fn make(
+    fn begin(
         &self,
         alloc: Global,
-        name: &str,
-        value: &Value,
+        origin: KeywordOrigin<'_>,
         object: &Map<String, Value>,
         draft: Draft,
-    ) -> Result<Made, OutOfMemory> {
-        if name == "type" {
-            Ok(here_if(type_made(alloc, integers_of(draft), value)?))
-        } else if name == "const" {
-            let constant = HeldValue::of(alloc, value)?;
-            Ok(here_if(Some(Assertion::Const(constant))))
-        } else if name == "enum" {
-            Ok(here_if(enum_made(alloc, value)?))
-        } else {
-            made_of_numbers(alloc, draft, object, name, value)
+        _vocabularies: &VocabularySet,
+        _formats: bool,
+    ) -> Result<Maker, OutOfMemory> {
+        match origin {
+            KeywordOrigin::Own(_) => Ok(ends(alloc, Ending::Nothing)),
+            KeywordOrigin::Builtin(entry) => member_maker(alloc, entry.keyword, object, draft),
         }
     }
 
-    ghost right = { λ t draft object name value found. made_right _ (λ k. refl) draft object name value found };
+    fn turn(
+        &self,
+        alloc: Global,
+        maker: &mut Maker,
+        reply: MakerReply,
+    ) -> Result<MakerStep<Telling<Assertion>>, OutOfMemory> {
+        maker.turn(alloc, reply)
+    }
+
+    ghost right = { λ _. makes_rightly _ (λ k. refl) };
 }

@@ -1,10 +1,14 @@
 //! The table of the basic keywords.
-ghost use Rattle.std.specs.Prelude.{IfOk};
+ghost use Rattle.std.specs.Prelude.{IfOk, codes};
 ghost use Rattle.serde_json.specs.Find.{get_member};
 ghost use Rattle.serde_json.specs.View.{view};
-ghost use Rattle.schema_drafts.specs.KeywordViews.{draft_of};
+ghost use Rattle.schema_drafts.specs.KeywordViews.{builtin_text, draft_of};
+ghost use Rattle.schema_applicators.specs.ApplicatorShape.{has_if};
+ghost use Rattle.keyword_makers.specs.Branches.{has_branch, if_script};
 ghost use Rattle.keyword_makers.specs.MakerViews.{Begins, waiting_of};
-ghost use Rattle.standard_basics.specs.Makers.{items_script, later_script, member_script, properties_script, schema_script, value_script};
+ghost use Rattle.keyword_makers.specs.Making.{makes_if};
+ghost use Rattle.standard_basics.specs.BasicShape.{applies};
+ghost use Rattle.standard_basics.specs.Makers.{count_shape, items_script, member_script, properties_script, value_script};
 ghost use Rattle.standard_basics.specs.Shapes.{shape_of};
 ghost use Rattle.schema_traits.specs.Readings.{fields};
 
@@ -21,7 +25,7 @@ use keyword_makers::{
     Ending, PathsMaker, asks_for, branches_of, each_schema, ends, list_length, makes_if, malformed,
     only_child, value_in, values_of,
 };
-use schema_drafts::{Draft, VocabularySet};
+use schema_drafts::{BuiltinKeyword, Draft, VocabularySet};
 use schema_reports::OutOfMemory;
 use schema_traits::{AscendingNames, KeywordOrigin, KeywordTable, MakerReply, MakerStep};
 use serde_json::{Map, Value};
@@ -69,121 +73,127 @@ fn items_maker(
     only_child(alloc, name, BasicKeyword::Items(before))
 }
 
+/// Returns the maker of a keyword that counts.
+fn count_maker(
+    alloc: Global,
+    kind: CountKind,
+    name: &str,
+    value: &Value,
+) -> Result<PathsMaker<BasicKeyword>, OutOfMemory>
+    ensures maker { IfOk result (Begins shape_of (makes_if name.now (view value.now) (count_shape kind (view value.now)))) }
+{
+    makes_if(alloc, name, value, count_keyword(kind, value))
+}
+
+/// Returns the maker of `if`.
+fn if_maker(
+    alloc: Global,
+    name: &str,
+    object: &Map<String, Value>,
+) -> Result<PathsMaker<BasicKeyword>, OutOfMemory>
+    ensures maker { IfOk result (Begins shape_of (if_script (λ accepted refused. applies (has_if accepted refused)) name.now
+        (has_branch (codes "then") (fields object.now)) (has_branch (codes "else") (fields object.now)))) }
+{
+    let branches = branches_of(alloc, name, object)?;
+    let keyword = BasicKeyword::If(branches.accepted, branches.refused);
+    Ok(asks_for(branches.paths, keyword))
+}
+
+/// Returns the maker of a keyword with this value.
 fn value_maker(
     alloc: Global,
-    name: &str,
+    keyword: BuiltinKeyword,
     value: &Value,
     object: &Map<String, Value>,
     draft: Draft,
 ) -> Result<PathsMaker<BasicKeyword>, OutOfMemory>
-    ensures maker { IfOk result (Begins shape_of (value_script (draft_of draft) (fields object.now) name.now (view value.now))) }
+    ensures maker { IfOk result (Begins shape_of (value_script (draft_of draft) (fields object.now)
+        (builtin_text keyword) (view value.now))) }
 {
-    if name == "type" {
-        let keyword = type_keyword(alloc, value)?;
-        return makes_if(alloc, name, value, keyword);
+    let name = keyword.as_str();
+    match keyword {
+        BuiltinKeyword::TypeKeyword => {
+            let made = type_keyword(alloc, value)?;
+            makes_if(alloc, name, value, made)
+        }
+        BuiltinKeyword::Required => {
+            let made = required_keyword(alloc, value)?;
+            makes_if(alloc, name, value, made)
+        }
+        BuiltinKeyword::Pattern => {
+            let made = pattern_keyword(alloc, value)?;
+            makes_if(alloc, name, value, made)
+        }
+        BuiltinKeyword::MinLength => count_maker(alloc, CountKind::MinLength, name, value),
+        BuiltinKeyword::MaxLength => count_maker(alloc, CountKind::MaxLength, name, value),
+        BuiltinKeyword::MinProperties => {
+            count_maker(alloc, CountKind::MinProperties, name, value)
+        }
+        BuiltinKeyword::Properties => properties_maker(alloc, name, value),
+        BuiltinKeyword::PropertyNames => only_child(alloc, name, BasicKeyword::PropertyNames),
+        BuiltinKeyword::Items => items_maker(alloc, name, value, object, draft),
+        BuiltinKeyword::PrefixItems => {
+            let keyword = BasicKeyword::PrefixItems(list_length(value));
+            each_schema(alloc, name, value, keyword)
+        }
+        BuiltinKeyword::AllOf => {
+            each_schema(alloc, name, value, BasicKeyword::AllOf(list_length(value)))
+        }
+        BuiltinKeyword::AnyOf => {
+            each_schema(alloc, name, value, BasicKeyword::AnyOf(list_length(value)))
+        }
+        BuiltinKeyword::OneOf => {
+            each_schema(alloc, name, value, BasicKeyword::OneOf(list_length(value)))
+        }
+        BuiltinKeyword::Not => only_child(alloc, name, BasicKeyword::Not(value.clone()?)),
+        BuiltinKeyword::If => if_maker(alloc, name, object),
+        // Other tables make these, or none does.
+        BuiltinKeyword::Const
+        | BuiltinKeyword::Enum
+        | BuiltinKeyword::Minimum
+        | BuiltinKeyword::Maximum
+        | BuiltinKeyword::ExclusiveMinimum
+        | BuiltinKeyword::ExclusiveMaximum
+        | BuiltinKeyword::MultipleOf
+        | BuiltinKeyword::MinItems
+        | BuiltinKeyword::MaxItems
+        | BuiltinKeyword::MaxProperties
+        | BuiltinKeyword::DependentRequired
+        | BuiltinKeyword::UniqueItems => Ok(ends(alloc, Ending::Nothing)),
+        BuiltinKeyword::PatternProperties | BuiltinKeyword::AdditionalProperties => Ok(ends(
+            alloc,
+            Ending::Nothing,
+        )),
+        BuiltinKeyword::AdditionalItems
+        | BuiltinKeyword::Contains
+        | BuiltinKeyword::Dependencies
+        | BuiltinKeyword::DependentSchemas => Ok(ends(alloc, Ending::Nothing)),
+        BuiltinKeyword::Format
+        | BuiltinKeyword::ContentEncoding
+        | BuiltinKeyword::ContentMediaType
+        | BuiltinKeyword::ContentSchema => Ok(ends(alloc, Ending::Nothing)),
+        BuiltinKeyword::UnevaluatedProperties
+        | BuiltinKeyword::UnevaluatedItems
+        | BuiltinKeyword::Ref
+        | BuiltinKeyword::RecursiveRef
+        | BuiltinKeyword::DynamicRef => Ok(ends(alloc, Ending::Nothing)),
     }
-    if name == "required" {
-        let keyword = required_keyword(alloc, value)?;
-        return makes_if(alloc, name, value, keyword);
-    }
-    if name == "properties" {
-        return properties_maker(alloc, name, value);
-    }
-    later_maker(alloc, name, value, object, draft)
 }
 
-/// The remaining keywords.
-fn later_maker(
-    alloc: Global,
-    name: &str,
-    value: &Value,
-    object: &Map<String, Value>,
-    draft: Draft,
-) -> Result<PathsMaker<BasicKeyword>, OutOfMemory>
-    ensures maker { IfOk result (Begins shape_of (later_script (draft_of draft) (fields object.now) name.now (view value.now))) }
-{
-    if name == "minLength" {
-        return makes_if(
-            alloc,
-            name,
-            value,
-            count_keyword(CountKind::MinLength, value),
-        );
-    }
-    if name == "maxLength" {
-        return makes_if(
-            alloc,
-            name,
-            value,
-            count_keyword(CountKind::MaxLength, value),
-        );
-    }
-    if name == "minProperties" {
-        return makes_if(
-            alloc,
-            name,
-            value,
-            count_keyword(CountKind::MinProperties, value),
-        );
-    }
-    if name == "pattern" {
-        let keyword = pattern_keyword(alloc, value)?;
-        return makes_if(alloc, name, value, keyword);
-    }
-    schema_maker(alloc, name, value, object, draft)
-}
-
-/// The keywords whose value is a schema or a list of schemas.
-fn schema_maker(
-    alloc: Global,
-    name: &str,
-    value: &Value,
-    object: &Map<String, Value>,
-    draft: Draft,
-) -> Result<PathsMaker<BasicKeyword>, OutOfMemory>
-    ensures maker { IfOk result (Begins shape_of (schema_script (draft_of draft) (fields object.now) name.now (view value.now))) }
-{
-    if name == "allOf" {
-        return each_schema(alloc, name, value, BasicKeyword::AllOf(list_length(value)));
-    }
-    if name == "anyOf" {
-        return each_schema(alloc, name, value, BasicKeyword::AnyOf(list_length(value)));
-    }
-    if name == "oneOf" {
-        return each_schema(alloc, name, value, BasicKeyword::OneOf(list_length(value)));
-    }
-    if name == "prefixItems" {
-        let keyword = BasicKeyword::PrefixItems(list_length(value));
-        return each_schema(alloc, name, value, keyword);
-    }
-    if name == "items" {
-        return items_maker(alloc, name, value, object, draft);
-    }
-    if name == "not" {
-        return only_child(alloc, name, BasicKeyword::Not(value.clone()?));
-    }
-    if name == "propertyNames" {
-        return only_child(alloc, name, BasicKeyword::PropertyNames);
-    }
-    if name == "if" {
-        let branches = branches_of(alloc, name, object)?;
-        let keyword = BasicKeyword::If(branches.accepted, branches.refused);
-        return Ok(asks_for(branches.paths, keyword));
-    }
-    Ok(ends(alloc, Ending::Nothing))
-}
-
+/// Returns the maker of an object's member.
+///
+/// It makes nothing if the member is missing.
 fn member_maker(
     alloc: Global,
-    name: &str,
+    keyword: BuiltinKeyword,
     object: &Map<String, Value>,
     draft: Draft,
 ) -> Result<PathsMaker<BasicKeyword>, OutOfMemory>
-    ensures maker { IfOk result (Begins shape_of (member_script (draft_of draft) (fields object.now) name.now (get_member name.now
-        (fields object.now)))) }
+    ensures maker { IfOk result (Begins shape_of (member_script (draft_of draft) (fields object.now) (builtin_text keyword)
+        (get_member (builtin_text keyword) (fields object.now)))) }
 {
-    match value_in(object, name) {
-        Some(value) => value_maker(alloc, name, value, object, draft),
+    match value_in(object, keyword.as_str()) {
+        Some(value) => value_maker(alloc, keyword, value, object, draft),
         None => Ok(ends(alloc, Ending::Nothing)),
     }
 }
@@ -216,7 +226,7 @@ impl KeywordTable<BasicKeyword> for BasicTable {
     ) -> Result<PathsMaker<BasicKeyword>, OutOfMemory> {
         match origin {
             KeywordOrigin::Own(_) => Ok(ends(alloc, Ending::Nothing)),
-            KeywordOrigin::Builtin(name) => member_maker(alloc, name, object, draft),
+            KeywordOrigin::Builtin(entry) => member_maker(alloc, entry.keyword, object, draft),
         }
     }
 

@@ -1,2 +1,3 @@
 pub mod TextTests
 pub mod Told
+pub mod OtherNames

@@ -9,7 +9,7 @@ use Rattle.serde_json.specs.Data.{Data, Members}
 use Rattle.serde_json.specs.Find.{as_str, get_member}
 use Rattle.theory_definitions.specs.Drafts.{Draft, Vocabularies, draft_2019_09, draft_2020_12, draft_4, draft_6, draft_7, draft_unknown}
 use Rattle.theory_definitions.specs.Instance.{Text}
-use Rattle.theory_definitions.specs.Making.{Script}
+use Rattle.theory_definitions.specs.Making.{Script, nothing, then_end}
 use Rattle.schema_traits.specs.MakerViews.{MakesRightly}
 use Rattle.keyword_makers.specs.ByObject.{MadeHere, by_object, makes_by_object, right_without_values}
 use Rattle.keyword_makers.specs.declared.by_object.ObjectKeyword.TheVariants as here
@@ -113,13 +113,16 @@ made formats draft object name d =
     else if asserts_contents draft then contents_made object name d
     else here.Nothing
 
+-- the table owns no name
 abbrev pub format_script : Bool → Text → Members → Draft → Vocabularies → Bool → Script FormatKeyword
-format_script own name object draft vocabularies formats = by_object (made formats) own name object draft vocabularies formats
+format_script true name object draft vocabularies formats = then_end nothing
+format_script false name object draft vocabularies formats = by_object (made formats) false name object draft vocabularies formats
 
 -- A keyword that absorbs nothing and stores no value of the schema is made as it must be.
 pub makes_rightly : (absorbed : FormatKeyword → List Text) (is_whole : FormatKeyword → Bool) → ((m : FormatKeyword) → [] ≡ absorbed m) → ((m : FormatKeyword) → is_whole m ≡ true)
     → (own : Bool) (name : Text) (object : Members) (draft : Draft) (vocabularies : Vocabularies) (formats : Bool)
     → MakesRightly absorbed is_whole object (format_script own name object draft vocabularies formats)
-makes_rightly absorbed is_whole none whole own name object draft vocabularies formats =
+makes_rightly absorbed is_whole none whole true name object draft vocabularies formats = tt
+makes_rightly absorbed is_whole none whole false name object draft vocabularies formats =
     makes_by_object absorbed is_whole (made formats) (λ draft object name d found. right_without_values absorbed is_whole none whole object (made formats draft object name d))
-    own name object draft vocabularies formats
+    false name object draft vocabularies formats

@@ -17,4 +17,4 @@ mod table;
 pub use contents::{is_base64, is_json, is_json_in_base64};
 pub use idn_hostnames::is_idn_hostname;
 pub use keyword::FormatKeyword;
-pub use table::{FormatTable, FormatsIf};
+pub use table::FormatTable;

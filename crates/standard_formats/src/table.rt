@@ -1,19 +1,20 @@
 //! The table that makes `format`, `contentEncoding` and `contentMediaType`.
-ghost use Rattle.std.specs.Prelude.{◌≡◌, codes};
+ghost use Rattle.std.specs.Prelude.{◌≡◌, IfOk, bytes_eq, codes};
 ghost use Rattle.serde_json.specs.Find.{as_str, get_member};
 ghost use Rattle.serde_json.specs.View.{view};
-ghost use Rattle.schema_drafts.specs.KeywordViews.{draft_of};
-ghost use Rattle.keyword_makers.specs.ByObject.{formed};
+ghost use Rattle.schema_drafts.specs.KeywordViews.{builtin_text, draft_of};
+ghost use Rattle.keyword_makers.specs.ByObject.{formed, script_found};
+ghost use Rattle.keyword_makers.specs.MakerViews.{Begins};
 ghost use Rattle.standard_formats.specs.FormatMaking.{asserts_contents, contents_made, encoding_made, format_made};
 ghost use Rattle.standard_formats.specs.FormatMaking.{idn_hostname_in, json_beside, json_in, keyword_if, keyword_named, known};
-ghost use Rattle.standard_formats.specs.FormatMaking.{media_type_made, order, since};
+ghost use Rattle.standard_formats.specs.FormatMaking.{made, media_type_made, order, since};
 ghost use Rattle.standard_formats.specs.Shapes.{shape_of};
 ghost use Rattle.schema_traits.specs.Readings.{fields, text_read};
 
 use crate::keyword::FormatKeyword;
 use keyword_authoring::Telling;
-use keyword_makers::{Children, MakesByObject, ObjectKeyword, PathsMaker, TableByObject, value_in};
-use schema_drafts::{Draft, VocabularySet};
+use keyword_makers::{Children, Ending, ObjectKeyword, PathsMaker, ends, maker_of, value_in};
+use schema_drafts::{BuiltinKeyword, Draft, VocabularySet};
 use schema_reports::OutOfMemory;
 use schema_traits::{KeywordOrigin, KeywordTable, MakerReply, MakerStep};
 use serde_json::{Map, Value};
@@ -100,10 +101,10 @@ fn keyword_named(draft: Draft, name: &str) -> Option<FormatKeyword>
 }
 
 /// Returns a keyword without children, or nothing.
-fn keyword_if(made: Option<FormatKeyword>) -> Made
-    ensures made { formed shape_of result ≡ keyword_if made }
+fn keyword_if(found: Option<FormatKeyword>) -> Made
+    ensures made { formed shape_of result ≡ keyword_if found }
 {
-    match made {
+    match found {
         Some(keyword) => ObjectKeyword::Keyword(Telling { keyword }, Children::Childless),
         None => ObjectKeyword::Nothing,
     }
@@ -190,66 +191,114 @@ fn encoding_made(value: &Value) -> Made
 }
 
 /// Makes `contentMediaType` or `contentEncoding`.
-fn contents_made(object: &Map<String, Value>, name: &str, value: &Value) -> Made
-    ensures made { formed shape_of result ≡ contents_made (fields object.now) name.now (view value.now) }
+fn contents_made(keyword: BuiltinKeyword, value: &Value, object: &Map<String, Value>) -> Made
+    ensures made { formed shape_of result ≡ contents_made (fields object.now) (builtin_text keyword) (view value.now) }
 {
-    if name == "contentMediaType" {
-        media_type_made(object, value)
-    } else if name == "contentEncoding" && value_in(object, "contentMediaType").is_none() {
-        encoding_made(value)
+    match keyword {
+        BuiltinKeyword::ContentMediaType => media_type_made(object, value),
+        BuiltinKeyword::ContentEncoding => {
+            if value_in(object, "contentMediaType").is_none() {
+                encoding_made(value)
+            } else {
+                ObjectKeyword::Nothing
+            }
+        }
+        BuiltinKeyword::TypeKeyword
+        | BuiltinKeyword::Const
+        | BuiltinKeyword::Enum
+        | BuiltinKeyword::Minimum
+        | BuiltinKeyword::Maximum
+        | BuiltinKeyword::ExclusiveMinimum
+        | BuiltinKeyword::ExclusiveMaximum
+        | BuiltinKeyword::MultipleOf
+        | BuiltinKeyword::MinLength
+        | BuiltinKeyword::MaxLength
+        | BuiltinKeyword::MinItems
+        | BuiltinKeyword::MaxItems
+        | BuiltinKeyword::MinProperties
+        | BuiltinKeyword::MaxProperties
+        | BuiltinKeyword::DependentRequired
+        | BuiltinKeyword::UniqueItems => ObjectKeyword::Nothing,
+        BuiltinKeyword::Required
+        | BuiltinKeyword::Pattern
+        | BuiltinKeyword::Properties
+        | BuiltinKeyword::PropertyNames
+        | BuiltinKeyword::Items
+        | BuiltinKeyword::PrefixItems
+        | BuiltinKeyword::AllOf
+        | BuiltinKeyword::AnyOf
+        | BuiltinKeyword::OneOf
+        | BuiltinKeyword::Not
+        | BuiltinKeyword::If => ObjectKeyword::Nothing,
+        BuiltinKeyword::PatternProperties | BuiltinKeyword::AdditionalProperties =>
+            ObjectKeyword::Nothing,
+        BuiltinKeyword::AdditionalItems
+        | BuiltinKeyword::Contains
+        | BuiltinKeyword::Dependencies
+        | BuiltinKeyword::DependentSchemas => ObjectKeyword::Nothing,
+        BuiltinKeyword::Format | BuiltinKeyword::ContentSchema => ObjectKeyword::Nothing,
+        BuiltinKeyword::UnevaluatedProperties
+        | BuiltinKeyword::UnevaluatedItems
+        | BuiltinKeyword::Ref
+        | BuiltinKeyword::RecursiveRef
+        | BuiltinKeyword::DynamicRef => ObjectKeyword::Nothing,
+    }
+}
+
+#[tactic(auto, using(crate::proofs::OtherNames::not_format))]
+fn is_format(keyword: BuiltinKeyword) -> bool
+    ensures format { result ≡ bytes_eq (builtin_text keyword) (codes "format") }
+{
+    matches!(keyword, BuiltinKeyword::Format)
+}
+
+/// Makes the keyword of a member with this value, given whether formats are checked.
+fn keyword_made(
+    checked: bool,
+    keyword: BuiltinKeyword,
+    value: &Value,
+    object: &Map<String, Value>,
+    draft: Draft,
+) -> Made
+    ensures made { formed shape_of result ≡ made checked (draft_of draft) (fields object.now) (builtin_text keyword) (view value.now) }
+{
+    if checked && is_format(keyword) {
+        format_made(draft, value)
+    } else if asserts_contents(draft) {
+        contents_made(keyword, value, object)
     } else {
         ObjectKeyword::Nothing
     }
 }
 
-/// A table that makes `format` only if formats are checked.
+/// Returns the maker of an object's member.
 ///
-/// It makes `contentEncoding` and `contentMediaType` too, in drafts 6 and 7.
-///
-/// The table owns no name.
-#[derive(Drop)]
-pub struct FormatsIf {
-    pub checked: bool,
-}
-
-impl MakesByObject<Telling<FormatKeyword>> for FormatsIf {
-    ghost use Rattle.std.specs.Prelude.{false, refl};
-    ghost use Rattle.keyword_makers.specs.ByObject.{right_without_values};
-    ghost use Rattle.standard_formats.specs.FormatMaking.{made};
-
-    ghost owned = { λ t name. false };
-
-    ghost made = { λ t. made t.checked };
-
-    fn owns(&self, _name: &str) -> bool {
-        false
-    }
-
-    fn make(
-        &self,
-        _alloc: Global,
-        name: &str,
-        value: &Value,
-        object: &Map<String, Value>,
-        draft: Draft,
-    ) -> Result<Made, OutOfMemory> {
-        if self.checked && name == "format" {
-            Ok(format_made(draft, value))
-        } else if asserts_contents(draft) {
-            Ok(contents_made(object, name, value))
-        } else {
-            Ok(ObjectKeyword::Nothing)
+/// It makes nothing if the member is missing.
+fn member_maker(
+    alloc: Global,
+    checked: bool,
+    keyword: BuiltinKeyword,
+    object: &Map<String, Value>,
+    draft: Draft,
+) -> Result<Maker, OutOfMemory>
+    ensures maker { IfOk result (Begins shape_of (script_found (made checked) (draft_of draft) (fields object.now) (builtin_text keyword)
+        (get_member (builtin_text keyword) (fields object.now)))) }
+{
+    let name = keyword.as_str();
+    match value_in(object, name) {
+        Some(value) => {
+            let made = keyword_made(checked, keyword, value, object, draft);
+            maker_of(alloc, name, value, object, made)
         }
+        None => Ok(ends(alloc, Ending::Nothing)),
     }
-
-    ghost right = { λ t draft object name value found. right_without_values _ _ (λ k. refl) (λ k. refl) object
-        (made t.checked draft object name value) };
 }
 
 /// A table of `format`, `contentEncoding` and `contentMediaType`.
 ///
 /// It makes `format` if the compiler says that formats are checked: up to draft 7 always, and later
-/// if a vocabulary or an option says so. The table owns no name.
+/// if a vocabulary or an option says so. It makes `contentEncoding` and `contentMediaType` in drafts
+/// 6 and 7. The table owns no name.
 #[derive(Drop)]
 pub struct FormatTable {}
 
@@ -276,14 +325,15 @@ impl KeywordTable<Telling<FormatKeyword>> for FormatTable {
         origin: KeywordOrigin<'_>,
         object: &Map<String, Value>,
         draft: Draft,
-        vocabularies: &VocabularySet,
+        _vocabularies: &VocabularySet,
         formats: bool,
     ) -> Result<Maker, OutOfMemory> {
-        let table = TableByObject {
-            keywords: FormatsIf { checked: formats },
-        };
-        let maker = table.begin(alloc, origin, object, draft, vocabularies, formats)?;
-        Ok(maker)
+        match origin {
+            KeywordOrigin::Own(_) => Ok(ends(alloc, Ending::Nothing)),
+            KeywordOrigin::Builtin(entry) => {
+                member_maker(alloc, formats, entry.keyword, object, draft)
+            }
+        }
     }
 
     fn turn(

@@ -1,2 +1,2 @@
-pub mod SameScripts
+pub mod AtOnce
 mod Treated

@@ -1,4 +1,9 @@
 pub mod Treatments
 pub mod Patterns
+pub mod Families
+pub mod FamilyWords
+pub mod FamilyLaws
+pub mod FamilyModes
+pub mod FamilyClones
 pub mod StandardScripts
 pub mod StandardLaws

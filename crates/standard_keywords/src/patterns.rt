@@ -1,15 +1,18 @@
 //! Patterns of a schema that cannot be read as regular expressions.
 ghost use Rattle.std.specs.Prelude.{◌≡◌, ◌∷◌, [], IfOk, option_map, string_bytes};
-ghost use Rattle.serde_json.specs.Find.{get_member};
+ghost use Rattle.serde_json.specs.Find.{as_object, as_str, get_member};
 ghost use Rattle.serde_json.specs.View.{view};
+ghost use Rattle.schema_drafts.specs.KeywordViews.{builtin_text};
+ghost use Rattle.schema_traits.specs.KeywordViews.{option_list};
 ghost use Rattle.schema_traits.specs.MakerViews.{is_own, name_of};
 ghost use Rattle.keyword_makers.specs.Members.{names_of};
 ghost use Rattle.schema_traits.specs.Showing.{Shows};
-ghost use Rattle.standard_keywords.specs.Patterns.{pattern_refusal, refusal_among, refusal_in, unreadable_text};
+ghost use Rattle.standard_keywords.specs.Patterns.{names_in, pattern_refusal, refusal_among, refusal_in, unreadable_text};
 ghost use Rattle.schema_traits.specs.Readings.{fields};
 
 use keyword_makers::value_in;
 use regex_matcher::is_readable;
+use schema_drafts::BuiltinKeyword;
 use schema_reports::{Instance, OutOfMemory};
 use schema_traits::KeywordOrigin;
 use serde_json::{Map, Value};
@@ -60,23 +63,79 @@ fn refusal_of_names(
     Ok(None)
 }
 
-/// Returns the refusal of a member that holds a pattern that cannot be read.
-fn refusal_in(alloc: Global, name: &str, value: &Value) -> Result<Option<String>, OutOfMemory>
-    ensures refusal { Shows (option_map string_bytes) result (refusal_in name.now (view value.now)) }
+/// Returns the refusal of the value of `pattern`, if it cannot be read.
+fn refusal_of_pattern(alloc: Global, value: &Value) -> Result<Option<String>, OutOfMemory>
+    ensures refusal { Shows (option_map string_bytes) result (refusal_among (option_list (as_str (view value.now)))) }
 {
-    if name == "pattern" {
-        return match value.as_str() {
-            Some(pattern) => refusal_of(alloc, pattern),
-            None => Ok(None),
-        };
+    match value.as_str() {
+        Some(pattern) => refusal_of(alloc, pattern),
+        None => Ok(None),
     }
-    if name == "patternProperties" {
-        return match value.as_object() {
-            Some(members) => refusal_of_names(alloc, members),
-            None => Ok(None),
-        };
+}
+
+/// Returns the refusal of the value of `patternProperties`, if a pattern cannot be read.
+fn refusal_of_patterns(alloc: Global, value: &Value) -> Result<Option<String>, OutOfMemory>
+    ensures refusal { Shows (option_map string_bytes) result (refusal_among (names_in (as_object (view value.now)))) }
+{
+    match value.as_object() {
+        Some(members) => refusal_of_names(alloc, members),
+        None => Ok(None),
     }
-    Ok(None)
+}
+
+/// Returns the refusal of a member that holds a pattern that cannot be read.
+fn refusal_in(
+    alloc: Global,
+    keyword: BuiltinKeyword,
+    value: &Value,
+) -> Result<Option<String>, OutOfMemory>
+    ensures refusal { Shows (option_map string_bytes) result (refusal_in (builtin_text keyword) (view value.now)) }
+{
+    match keyword {
+        BuiltinKeyword::Pattern => refusal_of_pattern(alloc, value),
+        BuiltinKeyword::PatternProperties => refusal_of_patterns(alloc, value),
+        // These hold no pattern.
+        BuiltinKeyword::TypeKeyword
+        | BuiltinKeyword::Const
+        | BuiltinKeyword::Enum
+        | BuiltinKeyword::Minimum
+        | BuiltinKeyword::Maximum
+        | BuiltinKeyword::ExclusiveMinimum
+        | BuiltinKeyword::ExclusiveMaximum
+        | BuiltinKeyword::MultipleOf
+        | BuiltinKeyword::MinLength
+        | BuiltinKeyword::MaxLength
+        | BuiltinKeyword::MinItems
+        | BuiltinKeyword::MaxItems
+        | BuiltinKeyword::MinProperties
+        | BuiltinKeyword::MaxProperties
+        | BuiltinKeyword::DependentRequired
+        | BuiltinKeyword::UniqueItems => Ok(None),
+        BuiltinKeyword::Required
+        | BuiltinKeyword::Properties
+        | BuiltinKeyword::PropertyNames
+        | BuiltinKeyword::Items
+        | BuiltinKeyword::PrefixItems
+        | BuiltinKeyword::AllOf
+        | BuiltinKeyword::AnyOf
+        | BuiltinKeyword::OneOf
+        | BuiltinKeyword::Not
+        | BuiltinKeyword::If => Ok(None),
+        BuiltinKeyword::AdditionalProperties => Ok(None),
+        BuiltinKeyword::AdditionalItems
+        | BuiltinKeyword::Contains
+        | BuiltinKeyword::Dependencies
+        | BuiltinKeyword::DependentSchemas => Ok(None),
+        BuiltinKeyword::Format
+        | BuiltinKeyword::ContentEncoding
+        | BuiltinKeyword::ContentMediaType
+        | BuiltinKeyword::ContentSchema => Ok(None),
+        BuiltinKeyword::UnevaluatedProperties
+        | BuiltinKeyword::UnevaluatedItems
+        | BuiltinKeyword::Ref
+        | BuiltinKeyword::RecursiveRef
+        | BuiltinKeyword::DynamicRef => Ok(None),
+    }
 }
 
 /// Returns the text of the refusal, if the table refuses the member because of a pattern.
@@ -97,8 +156,8 @@ pub fn pattern_refusal(
         UnreadablePatterns::LeftToTheMatcher => Ok(None),
         UnreadablePatterns::Refused => match origin {
             KeywordOrigin::Own(_) => Ok(None),
-            KeywordOrigin::Builtin(name) => match value_in(object, name) {
-                Some(value) => refusal_in(alloc, name, value),
+            KeywordOrigin::Builtin(entry) => match value_in(object, entry.keyword.as_str()) {
+                Some(value) => refusal_in(alloc, entry.keyword, value),
                 None => Ok(None),
             },
         },

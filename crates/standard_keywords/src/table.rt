@@ -1,122 +1,49 @@
 //! The keyword table of the standard.
-ghost use Rattle.std.specs.Prelude.{◌≡◌, IfOk, string_bytes};
+ghost use Rattle.std.specs.Prelude.{◌≡◌, string_bytes};
 ghost use Rattle.serde_json.specs.Find.{get_member};
-ghost use Rattle.schema_traits.specs.MakerViews.{begun, name_of};
-ghost use Rattle.keyword_makers.specs.MakerViews.{waiting_of};
-ghost use Rattle.standard_assertions.specs.Shapes.{shape_of as assertion_of};
-ghost use Rattle.standard_keywords.specs.StandardScripts.{refused_at};
-ghost use Rattle.standard_keywords.specs.declared.patterns.UnreadablePatterns.TheVariants as unreadable;
+ghost use Rattle.theory_definitions.specs.Making.{nothing, then_end};
+ghost use Rattle.schema_drafts.specs.KeywordViews.{builtin_text, draft_of};
+ghost use Rattle.schema_traits.specs.MakerViews.{begun, is_own, name_of};
 ghost use Rattle.schema_traits.specs.Readings.{fields};
+ghost use Rattle.schema_traits.specs.Showing.{Shows};
+ghost use Rattle.standard_keywords.specs.StandardScripts.{refused_at, standard_waiting, treated_script};
+ghost use Rattle.standard_keywords.specs.Treatments.{refusal_text};
+ghost use Rattle.standard_keywords.specs.declared.patterns.UnreadablePatterns.TheVariants as unreadable;
 
-use crate::assertions::AssertionsOrRefusals;
+use crate::family::Family;
 use crate::patterns::{UnreadablePatterns, pattern_refusal};
-use crate::treatment::{Treatment, treatment_of};
+use crate::steps::{applicator_step, assertion_step, basic_step, format_step, pattern_step};
+use crate::treatment::{Treatment, refusal_text, treatment_of};
 use keyword_authoring::Telling;
-use keyword_joins::{Both, Route, RoutedTables};
-use keyword_makers::{Ending, PathsMaker, TableByObject, ends, refused, value_in};
-use schema_drafts::{Draft, VocabularySet};
+use keyword_makers::{Ending, PathsMaker, ends, refused, value_in};
+use schema_drafts::{BuiltinEntry, Draft, VocabularySet};
 use schema_reports::OutOfMemory;
 use schema_traits::{KeywordOrigin, KeywordTable, MakerReply, MakerStep};
 use serde_json::{Map, Value};
 use standard_applicators::{StandardApplicator, StandardApplicatorTable};
-use standard_assertions::Assertion;
+use standard_assertions::{Assertion, AssertionTable};
 use standard_basics::{BasicKeyword, BasicTable};
 use standard_formats::{FormatKeyword, FormatTable};
 use standard_pattern_properties::{GatedKeyword, GatedTable};
 use std::alloc::Global;
 
 /// A keyword of the standard.
-pub type StandardKeyword = Both<Telling<Assertion>, Applied>;
-
-/// A keyword of the standard that `standard_assertions` does not make.
-pub type Applied = Both<
+pub type StandardKeyword = Family<
+    Telling<Assertion>,
     StandardApplicator,
-    Both<GatedKeyword, Both<Telling<FormatKeyword>, BasicKeyword>>,
+    GatedKeyword,
+    Telling<FormatKeyword>,
+    BasicKeyword,
 >;
 
-type Maker = Both<
+/// A maker of a keyword of the standard.
+type Maker = Family<
     PathsMaker<Telling<Assertion>>,
-    Both<
-        PathsMaker<StandardApplicator>,
-        Both<
-            PathsMaker<GatedKeyword>,
-            Both<PathsMaker<Telling<FormatKeyword>>, PathsMaker<BasicKeyword>>,
-        >,
-    >,
+    PathsMaker<StandardApplicator>,
+    PathsMaker<GatedKeyword>,
+    PathsMaker<Telling<FormatKeyword>>,
+    PathsMaker<BasicKeyword>,
 >;
-
-type Formats = RoutedTables<FormatTable, FormatRoute, BasicTable>;
-
-type Gates = RoutedTables<GatedTable, GateRoute, Formats>;
-
-type Applicators = RoutedTables<StandardApplicatorTable, ApplicatorRoute, Gates>;
-
-type Tables = RoutedTables<TableByObject<AssertionsOrRefusals>, StandardRoute, Applicators>;
-
-/// Keywords that no other table makes go to the table of assertions and refusals.
-#[derive(Drop)]
-pub struct StandardRoute {}
-
-impl Route for StandardRoute {
-    ghost use Rattle.standard_keywords.specs.StandardScripts.{leads_first};
-
-    ghost leads = { λ _. leads_first };
-
-    fn leads_first(&self, draft: Draft, object: &Map<String, Value>, name: &str) -> bool {
-        match treatment_of(draft, object, name) {
-            Treatment::Asserted => true,
-            Treatment::Applied => false,
-            Treatment::Gated => false,
-            Treatment::Basic => false,
-            Treatment::Formatted => false,
-            Treatment::Silent => true,
-            Treatment::Refused => true,
-        }
-    }
-}
-
-/// Of the rest, keywords that `standard_applicators` makes go to its table.
-#[derive(Drop)]
-pub struct ApplicatorRoute {}
-
-impl Route for ApplicatorRoute {
-    ghost use Rattle.standard_keywords.specs.StandardScripts.{leads_to_applicators};
-
-    ghost leads = { λ _. leads_to_applicators };
-
-    fn leads_first(&self, draft: Draft, object: &Map<String, Value>, name: &str) -> bool {
-        matches!(treatment_of(draft, object, name), Treatment::Applied)
-    }
-}
-
-/// Of the rest, keywords that `standard_pattern_properties` makes go to its table.
-#[derive(Drop)]
-pub struct GateRoute {}
-
-impl Route for GateRoute {
-    ghost use Rattle.standard_keywords.specs.StandardScripts.{leads_to_gates};
-
-    ghost leads = { λ _. leads_to_gates };
-
-    fn leads_first(&self, draft: Draft, object: &Map<String, Value>, name: &str) -> bool {
-        matches!(treatment_of(draft, object, name), Treatment::Gated)
-    }
-}
-
-/// Of the rest, keywords that `standard_formats` makes go to its table, the others to the
-/// basic one.
-#[derive(Drop)]
-pub struct FormatRoute {}
-
-impl Route for FormatRoute {
-    ghost use Rattle.standard_keywords.specs.StandardScripts.{leads_to_formats};
-
-    ghost leads = { λ _. leads_to_formats };
-
-    fn leads_first(&self, draft: Draft, object: &Map<String, Value>, name: &str) -> bool {
-        matches!(treatment_of(draft, object, name), Treatment::Formatted)
-    }
-}
 
 /// The table of the standard's keywords.
 ///
@@ -155,54 +82,112 @@ impl StandardTable {
     }
 }
 
-/// The five tables, joined.
-fn tables() -> Tables {
-    RoutedTables {
-        first: TableByObject {
-            keywords: AssertionsOrRefusals {},
-        },
-        route: StandardRoute {},
-        second: RoutedTables {
-            first: StandardApplicatorTable {},
-            route: ApplicatorRoute {},
-            second: RoutedTables {
-                first: GatedTable {},
-                route: GateRoute {},
-                second: RoutedTables {
-                    first: FormatTable {},
-                    route: FormatRoute {},
-                    second: BasicTable {},
-                },
-            },
-        },
+/// Returns a maker that makes no keyword.
+fn no_keyword(alloc: Global) -> Maker
+    ensures maker { standard_waiting result ≡ begun (then_end nothing) }
+{
+    Family::Assertion(ends(alloc, Ending::Nothing))
+}
+
+/// Returns the maker of a refusal with this text.
+///
+/// The refusal shows the keyword's value.
+fn refused_at(
+    alloc: Global,
+    name: &str,
+    object: &Map<String, Value>,
+    text: String,
+) -> Result<Maker, OutOfMemory>
+    ensures maker { Shows standard_waiting result (begun (refused_at name.now (string_bytes text)
+        (get_member name.now (fields object.now)))) }
+{
+    match value_in(object, name) {
+        Some(value) => {
+            let maker = refused(alloc, name, value, text)?;
+            Ok(Family::Assertion(maker))
+        }
+        None => Ok(no_keyword(alloc)),
     }
 }
 
-fn refused_at(
+/// Returns the maker of the refusal of a keyword that no family has.
+fn unsupported(alloc: Global, name: &str, object: &Map<String, Value>) -> Result<Maker, OutOfMemory>
+    ensures maker { Shows standard_waiting result (begun (refused_at name.now (refusal_text name.now)
+        (get_member name.now (fields object.now)))) }
+{
+    let text = refusal_text(alloc, name)?;
+    refused_at(alloc, name, object, text)
+}
+
+/// Returns the maker of a keyword of the standard.
+fn builtin_maker(
+    alloc: Global,
+    entry: BuiltinEntry,
+    object: &Map<String, Value>,
+    draft: Draft,
+    vocabularies: &VocabularySet,
+    formats: bool,
+) -> Result<Maker, OutOfMemory>
+    ensures maker { Shows standard_waiting result (begun (treated_script false (builtin_text entry.keyword) (fields object.now)
+        (draft_of draft) vocabularies.now formats)) }
+{
+    let origin = KeywordOrigin::Builtin(entry);
+    match treatment_of(draft, object, entry.keyword) {
+        Treatment::Asserted => {
+            let table = AssertionTable {};
+            let maker = table.begin(alloc, origin, object, draft, vocabularies, formats)?;
+            Ok(Family::Assertion(maker))
+        }
+        Treatment::Applied => {
+            let table = StandardApplicatorTable {};
+            let maker = table.begin(alloc, origin, object, draft, vocabularies, formats)?;
+            Ok(Family::Applicator(maker))
+        }
+        Treatment::Gated => {
+            let table = GatedTable {};
+            let maker = table.begin(alloc, origin, object, draft, vocabularies, formats)?;
+            Ok(Family::PatternProperties(maker))
+        }
+        Treatment::Formatted => {
+            let table = FormatTable {};
+            let maker = table.begin(alloc, origin, object, draft, vocabularies, formats)?;
+            Ok(Family::Format(maker))
+        }
+        Treatment::Basic => {
+            let table = BasicTable {};
+            let maker = table.begin(alloc, origin, object, draft, vocabularies, formats)?;
+            Ok(Family::Basic(maker))
+        }
+        Treatment::Silent => Ok(no_keyword(alloc)),
+        Treatment::Refused => unsupported(alloc, entry.keyword.as_str(), object),
+    }
+}
+
+/// Returns the maker of a keyword.
+///
+/// The keyword holds no pattern because of which the table refuses the schema.
+fn maker_of(
     alloc: Global,
     origin: KeywordOrigin<'_>,
     object: &Map<String, Value>,
-    text: String,
-) -> Result<PathsMaker<Telling<Assertion>>, OutOfMemory>
-    ensures maker { IfOk result (λ m. waiting_of assertion_of m ≡ begun (refused_at (name_of origin.entry) (string_bytes text)
-        (get_member (name_of origin.entry) (fields object.now)))) }
+    draft: Draft,
+    vocabularies: &VocabularySet,
+    formats: bool,
+) -> Result<Maker, OutOfMemory>
+    ensures maker { Shows standard_waiting result (begun (treated_script (is_own origin.entry) (name_of origin.entry) (fields object.now)
+        (draft_of draft) vocabularies.now formats)) }
 {
-    let name = match origin {
-        KeywordOrigin::Own(name) => name,
-        KeywordOrigin::Builtin(name) => name,
-    };
-    match value_in(object, name) {
-        Some(value) => refused(alloc, name, value, text),
-        None => Ok(ends(alloc, Ending::Nothing)),
+    match origin {
+        KeywordOrigin::Own(_) => Ok(no_keyword(alloc)),
+        KeywordOrigin::Builtin(entry) => {
+            builtin_maker(alloc, entry, object, draft, vocabularies, formats)
+        }
     }
 }
 
 impl KeywordTable<StandardKeyword> for StandardTable {
     ghost use Rattle.std.specs.Prelude.{false, refl};
-    ghost use Rattle.keyword_joins.specs.BothScripts.{both_waiting};
-    ghost use Rattle.standard_basics.specs.Shapes.{shape_of};
     ghost use Rattle.standard_formats.specs.FormatMaking.{makes_rightly as formats_rightly};
-    ghost use Rattle.standard_formats.specs.Shapes.{shape_of as format_of};
     ghost use Rattle.standard_keywords.specs.StandardScripts.{standard_script};
     ghost use Rattle.standard_keywords.specs.StandardLaws.{makes_rightly};
     ghost use Rattle.standard_applicators.specs.MakerLaws.{makes_rightly as applicators_rightly};
@@ -214,8 +199,7 @@ impl KeywordTable<StandardKeyword> for StandardTable {
 
     ghost script = { λ table. standard_script table.unreadable };
 
-    ghost waiting = { both_waiting (waiting_of assertion_of) (both_waiting (waiting_of (λ k. k))
-        (both_waiting (waiting_of (λ k. k)) (both_waiting (waiting_of format_of) (waiting_of shape_of)))) };
+    ghost waiting = { standard_waiting };
 
     fn owns(&self, _name: &str) -> bool {
         false
@@ -232,14 +216,8 @@ impl KeywordTable<StandardKeyword> for StandardTable {
     ) -> Result<Maker, OutOfMemory> {
         let refusal = pattern_refusal(self.unreadable, alloc, origin, object)?;
         match refusal {
-            Some(text) => {
-                let maker = refused_at(alloc, origin, object, text)?;
-                Ok(Both::First(maker))
-            }
-            None => {
-                let maker = tables().begin(alloc, origin, object, draft, vocabularies, formats)?;
-                Ok(maker)
-            }
+            Some(text) => refused_at(alloc, origin.name(), object, text),
+            None => maker_of(alloc, origin, object, draft, vocabularies, formats),
         }
     }
 
@@ -249,7 +227,13 @@ impl KeywordTable<StandardKeyword> for StandardTable {
         maker: &mut Maker,
         reply: MakerReply,
     ) -> Result<MakerStep<StandardKeyword>, OutOfMemory> {
-        tables().turn(alloc, maker, reply)
+        match maker {
+            Family::Assertion(maker) => Ok(assertion_step(maker.turn(alloc, reply)?)),
+            Family::Applicator(maker) => Ok(applicator_step(maker.turn(alloc, reply)?)),
+            Family::PatternProperties(maker) => Ok(pattern_step(maker.turn(alloc, reply)?)),
+            Family::Format(maker) => Ok(format_step(maker.turn(alloc, reply)?)),
+            Family::Basic(maker) => Ok(basic_step(maker.turn(alloc, reply)?)),
+        }
     }
 
     ghost right = { λ table. makes_rightly _ (λ k. refl) _ _ applicators_rightly _ _ gates_rightly

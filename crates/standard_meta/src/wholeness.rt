@@ -4,12 +4,10 @@ ghost use Rattle.standard_basics.specs.BasicShape.{is_whole};
 ghost use Rattle.standard_basics.specs.Shapes.{shape_of};
 ghost use Rattle.standard_assertions.specs.Assertions.{shows_no_fraction};
 
-use keyword_joins::Both;
 use meta_checker::{TellsFractions, has_fraction};
-use schema_traits::Validate;
 use standard_assertions::Assertion;
 use standard_basics::BasicKeyword;
-use standard_keywords::{Applied, StandardKeyword};
+use standard_keywords::{Family, StandardKeyword};
 
 /// Decides whether a keyword of the standard shows a fraction of its schema.
 #[derive(Drop)]
@@ -41,26 +39,14 @@ fn basic_shows_none(keyword: &BasicKeyword) -> bool
     }
 }
 
-fn applied_shows_none(keyword: &Applied) -> bool
-    ensures whole { result ≡ ⟦<Applied as Validate>⟧.is_whole (⟦<Applied as Validate>⟧.shape keyword.now) }
-{
-    match keyword {
-        Both::First(_) => true,
-        Both::Second(keyword) => match keyword {
-            Both::First(_) => true,
-            Both::Second(keyword) => match keyword {
-                Both::First(_) => true,
-                Both::Second(keyword) => basic_shows_none(keyword),
-            },
-        },
-    }
-}
-
 impl TellsFractions<StandardKeyword> for StandardFractions {
     fn shows_none(&self, keyword: &StandardKeyword) -> bool {
         match keyword {
-            Both::First(keyword) => assertion_shows_none(&keyword.keyword),
-            Both::Second(keyword) => applied_shows_none(keyword),
+            Family::Assertion(keyword) => assertion_shows_none(&keyword.keyword),
+            Family::Applicator(_) => true,
+            Family::PatternProperties(_) => true,
+            Family::Format(_) => true,
+            Family::Basic(keyword) => basic_shows_none(keyword),
         }
     }
 }

@@ -50,9 +50,10 @@ abbrev pub member_script : Members → Text → Option Data → Script GatedKeyw
 member_script ms name None = then_end nothing
 member_script ms name (Some d) = value_script ms name d
 
--- the same in each draft
+-- the same in each draft; the table owns no name
 abbrev pub gated_script : Bool → Text → Members → Draft → Vocabularies → Bool → Script GatedKeyword
-gated_script own name ms draft vocabularies formats = member_script ms name (get_member name ms)
+gated_script true name ms draft vocabularies formats = then_end nothing
+gated_script false name ms draft vocabularies formats = member_script ms name (get_member name ms)
 
 -- ---- the law of the makers
 
@@ -84,4 +85,5 @@ member_rightly owner name (Some d) = value_rightly owner name d
 
 pub makes_rightly : (own : Bool) (name : Text) (owner : Members) (draft : Draft) (vocabularies : Vocabularies) (formats : Bool)
     → MakesRightly absorbed is_whole owner (gated_script own name owner draft vocabularies formats)
-makes_rightly own name owner draft vocabularies formats = member_rightly owner name (get_member name owner)
+makes_rightly true name owner draft vocabularies formats = tt
+makes_rightly false name owner draft vocabularies formats = member_rightly owner name (get_member name owner)

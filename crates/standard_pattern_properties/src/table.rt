@@ -2,8 +2,10 @@
 ghost use Rattle.std.specs.Prelude.{◌≡◌, IfOk};
 ghost use Rattle.serde_json.specs.Find.{as_object, get_member};
 ghost use Rattle.serde_json.specs.View.{view};
+ghost use Rattle.schema_drafts.specs.KeywordViews.{builtin_text};
 ghost use Rattle.keyword_makers.specs.MakerViews.{waiting_of, Begins};
-ghost use Rattle.standard_pattern_properties.specs.Making.{beside_of, is_false, member_script, names_of_value, others_script, patterns_script};
+ghost use Rattle.standard_pattern_properties.specs.Making.{beside_of, is_false, member_script, names_of_value};
+ghost use Rattle.standard_pattern_properties.specs.Making.{others_script, patterns_script};
 ghost use Rattle.standard_pattern_properties.specs.Making.{value_script};
 ghost use Rattle.schema_traits.specs.Showing.{Yields};
 ghost use Rattle.schema_traits.specs.Readings.{fields, value_read};
@@ -14,7 +16,7 @@ use crate::names::Texts;
 use keyword_makers::{
     Ending, PathsMaker, asks_for, ends, malformed, only_child, value_in, values_below,
 };
-use schema_drafts::{Draft, VocabularySet};
+use schema_drafts::{BuiltinKeyword, Draft, VocabularySet};
 use schema_reports::OutOfMemory;
 use schema_traits::{KeywordOrigin, KeywordTable, MakerReply, MakerStep};
 use serde_json::{Map, Value};
@@ -107,19 +109,58 @@ fn others_maker(
 /// Returns the maker of a keyword with this value.
 fn value_maker(
     alloc: Global,
-    name: &str,
+    keyword: BuiltinKeyword,
     value: &Value,
     object: &Map<String, Value>,
 ) -> Result<Maker, OutOfMemory>
-    ensures maker { IfOk result (Begins (λ k. k) (value_script (fields object.now) name.now (view value.now))) }
+    ensures maker { IfOk result (Begins (λ k. k) (value_script (fields object.now) (builtin_text keyword) (view value.now))) }
 {
-    if name == "patternProperties" {
-        return patterns_maker(alloc, name, value);
+    let name = keyword.as_str();
+    match keyword {
+        BuiltinKeyword::PatternProperties => patterns_maker(alloc, name, value),
+        BuiltinKeyword::AdditionalProperties => others_maker(alloc, name, value, object),
+        // Other tables make these, or none does.
+        BuiltinKeyword::TypeKeyword
+        | BuiltinKeyword::Const
+        | BuiltinKeyword::Enum
+        | BuiltinKeyword::Minimum
+        | BuiltinKeyword::Maximum
+        | BuiltinKeyword::ExclusiveMinimum
+        | BuiltinKeyword::ExclusiveMaximum
+        | BuiltinKeyword::MultipleOf
+        | BuiltinKeyword::MinLength
+        | BuiltinKeyword::MaxLength
+        | BuiltinKeyword::MinItems
+        | BuiltinKeyword::MaxItems
+        | BuiltinKeyword::MinProperties
+        | BuiltinKeyword::MaxProperties
+        | BuiltinKeyword::DependentRequired
+        | BuiltinKeyword::UniqueItems => Ok(ends(alloc, Ending::Nothing)),
+        BuiltinKeyword::Required
+        | BuiltinKeyword::Pattern
+        | BuiltinKeyword::Properties
+        | BuiltinKeyword::PropertyNames
+        | BuiltinKeyword::Items
+        | BuiltinKeyword::PrefixItems
+        | BuiltinKeyword::AllOf
+        | BuiltinKeyword::AnyOf
+        | BuiltinKeyword::OneOf
+        | BuiltinKeyword::Not
+        | BuiltinKeyword::If => Ok(ends(alloc, Ending::Nothing)),
+        BuiltinKeyword::AdditionalItems
+        | BuiltinKeyword::Contains
+        | BuiltinKeyword::Dependencies
+        | BuiltinKeyword::DependentSchemas => Ok(ends(alloc, Ending::Nothing)),
+        BuiltinKeyword::Format
+        | BuiltinKeyword::ContentEncoding
+        | BuiltinKeyword::ContentMediaType
+        | BuiltinKeyword::ContentSchema => Ok(ends(alloc, Ending::Nothing)),
+        BuiltinKeyword::UnevaluatedProperties
+        | BuiltinKeyword::UnevaluatedItems
+        | BuiltinKeyword::Ref
+        | BuiltinKeyword::RecursiveRef
+        | BuiltinKeyword::DynamicRef => Ok(ends(alloc, Ending::Nothing)),
     }
-    if name == "additionalProperties" {
-        return others_maker(alloc, name, value, object);
-    }
-    Ok(ends(alloc, Ending::Nothing))
 }
 
 /// Returns the maker of an object's member.
@@ -127,13 +168,14 @@ fn value_maker(
 /// It makes nothing if the member is missing.
 fn member_maker(
     alloc: Global,
-    name: &str,
+    keyword: BuiltinKeyword,
     object: &Map<String, Value>,
 ) -> Result<Maker, OutOfMemory>
-    ensures maker { IfOk result (Begins (λ k. k) (member_script (fields object.now) name.now (get_member name.now (fields object.now)))) }
+    ensures maker { IfOk result (Begins (λ k. k) (member_script (fields object.now) (builtin_text keyword)
+        (get_member (builtin_text keyword) (fields object.now)))) }
 {
-    match value_in(object, name) {
-        Some(value) => value_maker(alloc, name, value, object),
+    match value_in(object, keyword.as_str()) {
+        Some(value) => value_maker(alloc, keyword, value, object),
         None => Ok(ends(alloc, Ending::Nothing)),
     }
 }
@@ -141,7 +183,7 @@ fn member_maker(
 /// A table of `patternProperties` and `additionalProperties`, in each draft.
 ///
 /// `additionalProperties` reads `properties` and `patternProperties` beside it. A value of
-/// `patternProperties` that is no object is refused.
+/// `patternProperties` that is no object is refused. The table owns no name.
 #[derive(Drop)]
 pub struct GatedTable {}
 
@@ -171,8 +213,8 @@ impl KeywordTable<GatedKeyword> for GatedTable {
         _formats: bool,
     ) -> Result<Maker, OutOfMemory> {
         match origin {
-            KeywordOrigin::Own(name) => member_maker(alloc, name, object),
-            KeywordOrigin::Builtin(name) => member_maker(alloc, name, object),
+            KeywordOrigin::Own(_) => Ok(ends(alloc, Ending::Nothing)),
+            KeywordOrigin::Builtin(entry) => member_maker(alloc, entry.keyword, object),
         }
     }
 

@@ -1,1 +1,2 @@
 pub mod NamesPast
+pub mod OtherNames

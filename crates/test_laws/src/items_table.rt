@@ -10,7 +10,7 @@ ghost use Rattle.schema_traits.specs.Showing.{Yields};
 
 use crate::items::{ItemsKeyword, ItemsPlan};
 use keyword_authoring::Planned;
-use schema_drafts::{Draft, VocabularySet};
+use schema_drafts::{BuiltinKeyword, Draft, VocabularySet};
 use schema_reports::OutOfMemory;
 use schema_traits::{
     KeywordOrigin, KeywordTable, MakerReply, MakerStep, PendingKind, PendingSchemaNode, SchemaPath,
@@ -97,6 +97,7 @@ impl KeywordTable<ItemsKeyword> for ItemsTable {
         name == "x-items"
     }
 
+    #[tactic(auto, using(crate::proofs::OtherNames::not_type))]
     fn begin(
         &self,
         _alloc: Global,
@@ -108,13 +109,10 @@ impl KeywordTable<ItemsKeyword> for ItemsTable {
     ) -> Result<ItemsMaker, OutOfMemory> {
         match origin {
             KeywordOrigin::Own(_) => Ok(ItemsMaker::Begins),
-            KeywordOrigin::Builtin(name) => {
-                if name == "type" {
-                    Ok(ItemsMaker::ArrayType)
-                } else {
-                    Ok(ItemsMaker::Nothing)
-                }
-            }
+            KeywordOrigin::Builtin(entry) => match entry.keyword {
+                BuiltinKeyword::TypeKeyword => Ok(ItemsMaker::ArrayType),
+                _ => Ok(ItemsMaker::Nothing),
+            },
         }
     }
 

@@ -130,10 +130,7 @@ impl<K: Validate> KeywordTable<K> for PrintingTable {
         _vocabularies: &VocabularySet,
         _formats: bool,
     ) -> Result<PrintingMaker, OutOfMemory> {
-        match origin {
-            KeywordOrigin::Own(name) => maker_of(alloc, name, object),
-            KeywordOrigin::Builtin(name) => maker_of(alloc, name, object),
-        }
+        maker_of(alloc, origin.name(), object)
     }
 
     fn turn(

@@ -1,5 +1,6 @@
-//! Keywords in order of priority; those of one priority keep their order.
+//! Entries of keywords, in order of priority; those of one priority keep their order.
 ghost use Rattle.std.specs.Prelude.{◌≡◌, ◌≤◌, IfOk, None, map, length, insert, option_map, string_bytes, OnOk};
+ghost use Rattle.schema_traits.specs.MakerViews.{name_of};
 ghost use Rattle.schema_traits.specs.Showing.{Shows, Yields};
 ghost use Rattle.theory_definitions.specs.Guarded.{NodePart};
 ghost use Rattle.schema_node_table.specs.NodeViews.{entry_of, form_of, plan_of};
@@ -7,10 +8,20 @@ ghost use Rattle.schema_compiler.specs.Ordering.{placed_after};
 ghost use Rattle.schema_compiler.specs.Steps.{alone};
 
 use crate::compiler::compilation::PlannedNode;
-use schema_drafts::BuiltinKeyword;
 use schema_node_table::{Entry, EntryForm, KeywordName, NodeForm};
 use schema_reports::OutOfMemory;
+use schema_traits::KeywordOrigin;
 use std::alloc::Global;
+
+/// What is known of an entry before its keyword is made.
+#[derive(Clone, Copy)]
+pub(crate) struct EntryHead<'n> {
+    pub(crate) origin: KeywordOrigin<'n>,
+    /// The keyword's name, as the schema has it.
+    pub(crate) name: &'n String,
+    pub(crate) priority: u8,
+    pub(crate) is_leaf: bool,
+}
 
 // The index after the leading keywords with this priority or a lower one.
 fn place_for<K>(entries: &[Entry<K>], priority: u8) -> usize
@@ -36,36 +47,34 @@ pub(crate) fn insert_by_priority<K: Drop>(
     Ok(())
 }
 
-// The name of a keyword. It is copied unless it is that of the standard's keyword of this priority.
-fn name_for(name: &String, priority: u8) -> Result<KeywordName, OutOfMemory>
+// The name of a keyword. The name of a keyword of the standard is not copied.
+fn name_for(origin: KeywordOrigin<'_>, name: &String) -> Result<KeywordName, OutOfMemory>
+    requires named { name_of origin ≡ string_bytes name.now }
     ensures name { Yields result (string_bytes name.now) }
 {
-    if let Some(keyword) = BuiltinKeyword::with_priority(priority) {
-        if keyword.as_str() == name.as_str() {
-            return Ok(KeywordName::known(keyword));
-        }
+    match origin {
+        KeywordOrigin::Own(_) => KeywordName::copied(name),
+        KeywordOrigin::Builtin(entry) => Ok(KeywordName::known(entry.keyword)),
     }
-    KeywordName::copied(name)
 }
 
-/// Returns a keyword with this name and form.
+/// Returns the entry with this head and form.
 pub(crate) fn entry_named<K: Drop>(
-    name: &String,
-    priority: u8,
-    is_leaf: bool,
+    head: EntryHead<'_>,
     form: EntryForm<K>,
 ) -> Result<Entry<K>, OutOfMemory>
+    requires named { name_of head.origin ≡ string_bytes head.name.now }
     ensures entry { Shows entry_of result (record {
-      name = string_bytes name.now;
-      priority = priority;
-      is_leaf = is_leaf;
+      name = string_bytes head.entry.name.now;
+      priority = head.entry.priority;
+      is_leaf = head.entry.is_leaf;
       form = form_of form;
     }) }
 {
     Ok(Entry {
-        name: name_for(name, priority)?,
-        priority,
-        is_leaf,
+        name: name_for(head.origin, head.name)?,
+        priority: head.priority,
+        is_leaf: head.is_leaf,
         form,
     })
 }

@@ -1,15 +1,16 @@
 //! The maker of one keyword: its start, and the replies to its requests.
-ghost use Rattle.std.specs.Prelude.{◌≡◌, ◌++◌, ◌∷◌, [], OnOk, length, map, option_map};
+ghost use Rattle.std.specs.Prelude.{◌≡◌, ◌++◌, ◌∷◌, [], OnOk, length, map, option_map, string_bytes};
 ghost use Rattle.schema_traits.specs.Showing.{Shows};
 ghost use Rattle.schema_traits.specs.MakerViews.{begun, is_own, maker_reply_of, name_of};
 ghost use Rattle.schema_traits.specs.EdgeViews.{edge_of};
 ghost use Rattle.schema_keys.specs.Compiling.{answers};
 ghost use Rattle.schema_compiler.specs.Gives.{script_of};
 
+use crate::compiler::entries::EntryHead;
 use crate::compiler::setup::Compiler;
 use schema_keys::{Context, SchemaKey};
 use schema_reports::OutOfMemory;
-use schema_traits::{Edge, KeywordOrigin, KeywordTable, MakerReply, Resolver, Validate};
+use schema_traits::{Edge, KeywordTable, MakerReply, Resolver, Validate};
 use serde_json::{Map, Value};
 
 impl<'p, R: Resolver, T> Compiler<'p, R, T> {
@@ -18,13 +19,14 @@ impl<'p, R: Resolver, T> Compiler<'p, R, T> {
         &self,
         key: &SchemaKey<R::State>,
         members: &Map<String, Value>,
-        own: bool,
-        name: &String,
+        head: EntryHead<'_>,
     ) -> Result<T::Maker, OutOfMemory>
     where
         T: KeywordTable<K>,
+        requires named { name_of head.origin ≡ string_bytes head.name.now }
         ensures begins { Shows T.waiting result (begun
-            (script_of R.Resolver T.KeywordTable K.Validate self.now key.now members.now.entries own name.now)) }
+            (script_of R.Resolver T.KeywordTable K.Validate self.now key.now members.now.entries
+            (is_own head.entry.origin) head.entry.name.now)) }
     {
         let context = Context {
             alloc: self.alloc,
@@ -35,23 +37,12 @@ impl<'p, R: Resolver, T> Compiler<'p, R, T> {
         let formats = context.validates_formats_by_default();
         self.table.begin(
             self.alloc,
-            origin_of(own, name.as_str()),
+            head.origin,
             members,
             context.draft(),
             &key.vocabularies,
             formats,
         )
-    }
-}
-
-fn origin_of(own: bool, name: &str) -> KeywordOrigin<'_>
-    ensures own { is_own result ≡ own }
-    ensures name { name_of result ≡ name.now }
-{
-    if own {
-        KeywordOrigin::Own(name)
-    } else {
-        KeywordOrigin::Builtin(name)
     }
 }
 

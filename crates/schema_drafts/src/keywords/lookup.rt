@@ -1,4 +1,4 @@
-ghost use Rattle.std.specs.Prelude.{◌≡◌, None, Some, if◌then◌else◌, option_map};
+ghost use Rattle.std.specs.Prelude.{◌≡◌, IfSome, None, Some, if◌then◌else◌, option_map};
 ghost use Rattle.schema_drafts.specs.KeywordTable.{builtin_in, content, entry_of, is_before_2019_09, is_in_force, plain_form, support_of};
 ghost use Rattle.schema_drafts.specs.KeywordViews.{builtin_text, draft_of, entry_seen, form_of, support_seen, vocabulary_of};
 
@@ -15,6 +15,7 @@ use crate::keywords::vocabularies::{Vocabulary, VocabularySet};
 /// needs is not in force.
 pub fn get_for_draft(draft: Draft, vocabularies: &VocabularySet, name: &str) -> Option<BuiltinEntry>
     ensures entry { option_map entry_seen result ≡ entry_of (draft_of draft) vocabularies.now name.now }
+    ensures named { IfSome result (λ e. builtin_text e.keyword ≡ name.now) }
 {
     let keyword = BuiltinKeyword::named(name)?;
     let support = support(keyword, draft)?;
@@ -40,6 +41,7 @@ pub fn builtin_row(draft: Draft, vocabularies: &VocabularySet, name: &str) -> Op
     ensures row { option_map (λ r. record { name = name.now; priority = r.priority; is_leaf = r.is_leaf }) result
         ≡ builtin_in (draft_of draft) vocabularies.now name.now }
     ensures entry { option_map (λ r. entry_seen r.entry) result ≡ entry_of (draft_of draft) vocabularies.now name.now }
+    ensures named { IfSome result (λ r. builtin_text r.entry.keyword ≡ name.now) }
 {
     let entry = get_for_draft(draft, vocabularies, name)?;
     let keyword = Keyword::Builtin(entry.keyword);

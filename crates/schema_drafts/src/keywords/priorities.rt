@@ -1,4 +1,4 @@
-ghost use Rattle.std.specs.Prelude.{◌≡◌, IfSome, Some, map};
+ghost use Rattle.std.specs.Prelude.{◌≡◌, Some, map};
 ghost use Rattle.schema_drafts.specs.KeywordTable.{HasFortyTwoRows, LeavesAreCheap, RowsAreInOrder};
 ghost use Rattle.schema_drafts.specs.KeywordTable.{builtin_name, keyword_table, leaf_of, priority_of};
 ghost use Rattle.schema_drafts.specs.KeywordViews.{builtin_text, keyword_seen};
@@ -34,59 +34,6 @@ pub fn keyword_is_leaf(keyword: &Keyword) -> bool
     match keyword {
         Keyword::Builtin(BuiltinKeyword::ContentSchema) | Keyword::Custom(_) => false,
         Keyword::Builtin(keyword) => builtin_priority(*keyword) < 40,
-    }
-}
-
-impl BuiltinKeyword {
-    /// Returns the standard's keyword with this priority, if there is one.
-    pub fn with_priority(priority: u8) -> Option<BuiltinKeyword>
-        ensures priority { IfSome result (λ keyword. priority_of (builtin_name (builtin_text keyword)) ≡ Some priority) }
-    {
-        match priority {
-            1 => Some(BuiltinKeyword::TypeKeyword),
-            5 => Some(BuiltinKeyword::Const),
-            6 => Some(BuiltinKeyword::Enum),
-            10 => Some(BuiltinKeyword::Minimum),
-            11 => Some(BuiltinKeyword::Maximum),
-            12 => Some(BuiltinKeyword::ExclusiveMinimum),
-            13 => Some(BuiltinKeyword::ExclusiveMaximum),
-            14 => Some(BuiltinKeyword::MultipleOf),
-            20 => Some(BuiltinKeyword::MinLength),
-            21 => Some(BuiltinKeyword::MaxLength),
-            22 => Some(BuiltinKeyword::MinItems),
-            23 => Some(BuiltinKeyword::MaxItems),
-            24 => Some(BuiltinKeyword::MinProperties),
-            25 => Some(BuiltinKeyword::MaxProperties),
-            26 => Some(BuiltinKeyword::Required),
-            27 => Some(BuiltinKeyword::DependentRequired),
-            30 => Some(BuiltinKeyword::Pattern),
-            31 => Some(BuiltinKeyword::Format),
-            32 => Some(BuiltinKeyword::ContentEncoding),
-            33 => Some(BuiltinKeyword::ContentMediaType),
-            34 => Some(BuiltinKeyword::ContentSchema),
-            35 => Some(BuiltinKeyword::UniqueItems),
-            40 => Some(BuiltinKeyword::Properties),
-            41 => Some(BuiltinKeyword::PatternProperties),
-            42 => Some(BuiltinKeyword::AdditionalProperties),
-            43 => Some(BuiltinKeyword::PropertyNames),
-            44 => Some(BuiltinKeyword::Items),
-            45 => Some(BuiltinKeyword::PrefixItems),
-            46 => Some(BuiltinKeyword::AdditionalItems),
-            47 => Some(BuiltinKeyword::Contains),
-            48 => Some(BuiltinKeyword::Dependencies),
-            49 => Some(BuiltinKeyword::DependentSchemas),
-            50 => Some(BuiltinKeyword::AllOf),
-            51 => Some(BuiltinKeyword::AnyOf),
-            52 => Some(BuiltinKeyword::OneOf),
-            53 => Some(BuiltinKeyword::Not),
-            54 => Some(BuiltinKeyword::If),
-            60 => Some(BuiltinKeyword::UnevaluatedProperties),
-            61 => Some(BuiltinKeyword::UnevaluatedItems),
-            REF_PRIORITY => Some(BuiltinKeyword::Ref),
-            71 => Some(BuiltinKeyword::RecursiveRef),
-            72 => Some(BuiltinKeyword::DynamicRef),
-            _ => None,
-        }
     }
 }
 

@@ -16,7 +16,7 @@ use Rattle.theory_meaning.specs.Reach.{at_first, maker_edges, reference_edges}
 use Rattle.theory_meaning.specs.Refusals.{Cause}
 use Rattle.theory_definitions.specs.Units.{absorbed_by, absorbed_in, object_of, unknown, without}
 use Rattle.theory_definitions.specs.Guarded.{NodePart, NodePlan, form_edges, node_edges, node_these}
-use Rattle.schema_traits.specs.MakerViews.{maker_reply_of}
+use Rattle.schema_traits.specs.MakerViews.{is_own, maker_reply_of}
 use Rattle.schema_traits.specs.EdgeViews.{edge_of}
 use Rattle.schema_node_table.specs.NodeViews.{entry_of, plan_of}
 use Rattle.schema_keys.specs.KeyViews.{key_of, kind_of}
@@ -322,7 +322,7 @@ entry_of-returns-in-Some-reference_kind g t c =
     let before = map string_bytes c.args.absorbed.now.items in
     let owns = rw c.as_str-text.ensures.value at c.owns.ensures.owned in
     let row = rw c.as_str-text.ensures.value at c.in-Some.ensures.row in
-    let kind = rw c.as_str-text.ensures.value at c.in-Some-reference_kind.ensures.kind in
+    let kind = rw (c.in-Some.ensures.named, c.as_str-text.ensures.value) at c.in-Some-reference_kind.ensures.kind in
     let made = c.reference_by in
     let new = filled g.R.Resolver.point made.new.compiled in
     let none = reference_absorbs s.parts k name c.in-Some.row.priority (kind_of c.in-Some-reference_kind.kind) value in
@@ -342,7 +342,7 @@ entry_of-returns-in-None-reference_kind g t c =
     let before = map string_bytes c.args.absorbed.now.items in
     let owns = rw c.as_str-text.ensures.value at c.owns.ensures.owned in
     let row = rw c.as_str-text.ensures.value at c.in-Some.ensures.row in
-    let kind = rw c.as_str-text.ensures.value at c.in-None-reference_kind.ensures.kind in
+    let kind = rw (c.in-Some.ensures.named, c.as_str-text.ensures.value) at c.in-None-reference_kind.ensures.kind in
     let made = c.make_entry-in-None-reference_kind in
     let new = filled g.R.Resolver.point made.new.compiled in
     built_is s.parts k whole name value (λ (es : List (Edge _)) (cs : List Cause) (p : Option (Part _)). MatchResult made.result (λ o. (MakesPart s.parts s.shape s.limit old.keys new.keys old.nodes new.nodes es cs k (option_map entry_of o) p) × (map string_bytes made.new.absorbed.items ≡ before ++ absorbed_by p) × (Goes s old new es (part_edges (option_map entry_of o)))) (Refused s.parts s.limit es cs old.keys))
@@ -371,10 +371,10 @@ make_entry-loop-children-init g t c =
     let k = v c.args.key.now in
     let whole = members_view c.args.members.now.entries in
     let name = string_bytes c.args.head.name.now in
-    let making = making s.parts k whole c.args.head.is_own name in
-    let script = g.T.KeywordTable.script c.args.self.now.table.now c.args.head.is_own name whole k.target.draft k.target.vocabularies (checks_formats s.parts k) in
-    let alike = asks_alike g.K.Validate.absorbed g.K.Validate.is_whole whole script (g.met.T.KeywordTable.right c.args.self.now.table.now c.args.head.is_own name whole k.target.draft k.target.vocabularies (checks_formats s.parts k)) in
-    (rw c.new-children.ensures.items (asked_begun s.parts s.shape s.limit s.nested k name making script (g.T.KeywordTable.waiting c.in_ok-maker.maker) old.keys old.nodes old refl alike c.in_ok-maker.ensures.begins c.requires.table c.requires.under_way), refl)
+    let making = making s.parts k whole (is_own c.args.head.origin) name in
+    let script = g.T.KeywordTable.script c.args.self.now.table.now (is_own c.args.head.origin) name whole k.target.draft k.target.vocabularies (checks_formats s.parts k) in
+    let alike = asks_alike g.K.Validate.absorbed g.K.Validate.is_whole whole script (g.met.T.KeywordTable.right c.args.self.now.table.now (is_own c.args.head.origin) name whole k.target.draft k.target.vocabularies (checks_formats s.parts k)) in
+    (rw c.new-children.ensures.items (asked_begun s.parts s.shape s.limit s.nested k name making script (g.T.KeywordTable.waiting c.in_ok-maker.maker) old.keys old.nodes old refl alike c.in_ok-maker.ensures.begins c.requires.may.table c.requires.may.under_way), refl)
 
 pub make_entry-returns-in_err-edge-in-Compile : goal.make_entry-returns-in_err-edge-in-Compile
 make_entry-returns-in_err-edge-in-Compile g t c =
@@ -384,7 +384,7 @@ make_entry-returns-in_err-edge-in-Compile g t c =
     let k = v c.args.key.now in
     let whole = members_view c.args.members.now.entries in
     let name = string_bytes c.args.head.name.now in
-    let making = making s.parts k whole c.args.head.is_own name in
+    let making = making s.parts k whole (is_own c.args.head.origin) name in
     let inv = c.loop-children.invariant.0 in
     let waiting = g.T.KeywordTable.waiting c.loop-children.maker in
     let waiting' = g.T.KeywordTable.waiting c.turn.new.maker in
@@ -404,7 +404,7 @@ make_entry-loop-children-preserved-in-Compile g t c =
     let k = v c.args.key.now in
     let whole = members_view c.args.members.now.entries in
     let name = string_bytes c.args.head.name.now in
-    let making = making s.parts k whole c.args.head.is_own name in
+    let making = making s.parts k whole (is_own c.args.head.origin) name in
     let inv = c.loop-children.invariant.0 in
     let waiting = g.T.KeywordTable.waiting c.loop-children.maker in
     let waiting' = g.T.KeywordTable.waiting c.turn.new.maker in
@@ -428,7 +428,7 @@ make_entry-returns-in_err-edge-in-Refer g t c =
     let k = v c.args.key.now in
     let whole = members_view c.args.members.now.entries in
     let name = string_bytes c.args.head.name.now in
-    let making = making s.parts k whole c.args.head.is_own name in
+    let making = making s.parts k whole (is_own c.args.head.origin) name in
     let inv = c.loop-children.invariant.0 in
     let waiting = g.T.KeywordTable.waiting c.loop-children.maker in
     let waiting' = g.T.KeywordTable.waiting c.turn.new.maker in
@@ -457,7 +457,7 @@ make_entry-loop-children-preserved-in-Refer g t c =
     let k = v c.args.key.now in
     let whole = members_view c.args.members.now.entries in
     let name = string_bytes c.args.head.name.now in
-    let making = making s.parts k whole c.args.head.is_own name in
+    let making = making s.parts k whole (is_own c.args.head.origin) name in
     let inv = c.loop-children.invariant.0 in
     let waiting = g.T.KeywordTable.waiting c.loop-children.maker in
     let waiting' = g.T.KeywordTable.waiting c.turn.new.maker in
@@ -481,7 +481,7 @@ make_entry-loop-children-preserved-in-Pending g t c =
     let k = v c.args.key.now in
     let whole = members_view c.args.members.now.entries in
     let name = string_bytes c.args.head.name.now in
-    let making = making s.parts k whole c.args.head.is_own name in
+    let making = making s.parts k whole (is_own c.args.head.origin) name in
     let inv = c.loop-children.invariant.0 in
     let waiting = g.T.KeywordTable.waiting c.loop-children.maker in
     let waiting' = g.T.KeywordTable.waiting c.turn.new.maker in
@@ -502,7 +502,7 @@ make_entry-loop-children-preserved g t c =
     let k = v c.args.key.now in
     let whole = members_view c.args.members.now.entries in
     let name = string_bytes c.args.head.name.now in
-    let making = making s.parts k whole c.args.head.is_own name in
+    let making = making s.parts k whole (is_own c.args.head.origin) name in
     let inv = c.loop-children.invariant.0 in
     let waiting = g.T.KeywordTable.waiting c.loop-children.maker in
     let waiting' = g.T.KeywordTable.waiting c.turn.new.maker in
@@ -523,7 +523,7 @@ make_entry-returns-in-Keyword g t c =
     let k = v c.args.key.now in
     let whole = members_view c.args.members.now.entries in
     let name = string_bytes c.args.head.name.now in
-    let making = making s.parts k whole c.args.head.is_own name in
+    let making = making s.parts k whole (is_own c.args.head.origin) name in
     let inv = c.loop-children.invariant.0 in
     let waiting = g.T.KeywordTable.waiting c.loop-children.maker in
     let waiting' = g.T.KeywordTable.waiting c.turn.new.maker in
@@ -553,7 +553,7 @@ make_entry-returns-in-Nothing g t c =
     let k = v c.args.key.now in
     let whole = members_view c.args.members.now.entries in
     let name = string_bytes c.args.head.name.now in
-    let making = making s.parts k whole c.args.head.is_own name in
+    let making = making s.parts k whole (is_own c.args.head.origin) name in
     let inv = c.loop-children.invariant.0 in
     let waiting = g.T.KeywordTable.waiting c.loop-children.maker in
     let waiting' = g.T.KeywordTable.waiting c.turn.new.maker in
@@ -580,7 +580,7 @@ make_entry-returns-in-Refuse g t c =
     let old = filled g.R.Resolver.point c.args.compiled.now in
     let k = v c.args.key.now in
     let name = string_bytes c.args.head.name.now in
-    let making = making s.parts k (members_view c.args.members.now.entries) c.args.head.is_own name in
+    let making = making s.parts k (members_view c.args.members.now.entries) (is_own c.args.head.origin) name in
     let waiting = g.T.KeywordTable.waiting c.loop-children.maker in
     let waiting' = g.T.KeywordTable.waiting c.turn.new.maker in
     let told = maker_reply_of c.loop-children.reply in
@@ -704,7 +704,7 @@ reference_by-returns-in_err-text g t c =
     let s = task g.R.Resolver.resolving g.T.KeywordTable.owned g.T.KeywordTable.script g.K.Validate.shape c.args.self.now in
     let old = filled g.R.Resolver.point c.args.compiled.now in
     let k = v c.args.key.now in
-    let name = string_bytes c.args.name.now in
+    let name = string_bytes c.args.head.name.now in
     let kind = kind_of c.args.kind in
     let value = view c.args.value.now in
     let p = err_from_is_err_and c.from_residual.result c.from_residual.ensures.1 in
@@ -716,7 +716,7 @@ reference_by-returns-in_err-reference_edge g t c =
     let s = task g.R.Resolver.resolving g.T.KeywordTable.owned g.T.KeywordTable.script g.K.Validate.shape c.args.self.now in
     let old = filled g.R.Resolver.point c.args.compiled.now in
     let k = v c.args.key.now in
-    let name = string_bytes c.args.name.now in
+    let name = string_bytes c.args.head.name.now in
     let kind = kind_of c.args.kind in
     let value = view c.args.value.now in
     let p = err_from_is_err_and c.from_residual-in_err-reference_edge.result c.from_residual-in_err-reference_edge.ensures.1 in
@@ -728,11 +728,11 @@ reference_by-returns-in-None g t c =
     let s = task g.R.Resolver.resolving g.T.KeywordTable.owned g.T.KeywordTable.script g.K.Validate.shape c.args.self.now in
     let old = filled g.R.Resolver.point c.args.compiled.now in
     let k = v c.args.key.now in
-    let name = string_bytes c.args.name.now in
+    let name = string_bytes c.args.head.name.now in
     let kind = kind_of c.args.kind in
     let value = view c.args.value.now in
     let text = string_bytes c.in_ok-text.text.now in (
-      reference_made s.parts k s.shape s.limit old.keys (map v c.reference_edge.new.compiled.keys) old.nodes c.reference_edge.new.compiled.nodes name kind (string_bytes c.in_ok-text.text.now) value c.args.priority None c.in_ok-text.ensures.text (rw c.in-None.is at c.in_ok-reference_edge.ensures.0),
+      reference_made s.parts k s.shape s.limit old.keys (map v c.reference_edge.new.compiled.keys) old.nodes c.reference_edge.new.compiled.nodes name kind (string_bytes c.in_ok-text.text.now) value c.args.head.priority None c.in_ok-text.ensures.text (rw c.in-None.is at c.in_ok-reference_edge.ensures.0),
       text_goes s old (filled g.R.Resolver.point c.reference_edge.new.compiled) k name kind text (view c.args.value.now) [] c.in_ok-text.ensures.text (rw c.in-None.is at c.in_ok-reference_edge.ensures.1),
     )
 
@@ -742,11 +742,11 @@ reference_by-returns-in_ok-entry_named-in-Some g t c =
     let s = task g.R.Resolver.resolving g.T.KeywordTable.owned g.T.KeywordTable.script g.K.Validate.shape c.args.self.now in
     let old = filled g.R.Resolver.point c.args.compiled.now in
     let k = v c.args.key.now in
-    let name = string_bytes c.args.name.now in
+    let name = string_bytes c.args.head.name.now in
     let kind = kind_of c.args.kind in
     let value = view c.args.value.now in
     let text = string_bytes c.in_ok-text.text.now in (
-      rw c.in_ok-entry_named-in-Some.ensures.entry (reference_made s.parts k s.shape s.limit old.keys (map v c.reference_edge.new.compiled.keys) old.nodes c.reference_edge.new.compiled.nodes name kind (string_bytes c.in_ok-text.text.now) value c.args.priority (Some (edge_of c.in-Some.edge)) c.in_ok-text.ensures.text (rw c.in-Some.is at c.in_ok-reference_edge.ensures.0)),
+      rw c.in_ok-entry_named-in-Some.ensures.entry (reference_made s.parts k s.shape s.limit old.keys (map v c.reference_edge.new.compiled.keys) old.nodes c.reference_edge.new.compiled.nodes name kind (string_bytes c.in_ok-text.text.now) value c.args.head.priority (Some (edge_of c.in-Some.edge)) c.in_ok-text.ensures.text (rw c.in-Some.is at c.in_ok-reference_edge.ensures.0)),
       subst (λ (x : NodePart _). Goes s old (filled g.R.Resolver.point c.reference_edge.new.compiled) (reference_edges s.parts k name kind (view c.args.value.now)) (form_edges x.form)) (sym c.in_ok-entry_named-in-Some.ensures.entry) (text_goes s old (filled g.R.Resolver.point c.reference_edge.new.compiled) k name kind text (view c.args.value.now) (edge_of c.in-Some.edge ∷ []) c.in_ok-text.ensures.text (rw c.in-Some.is at c.in_ok-reference_edge.ensures.1)),
     )
 

@@ -4,7 +4,7 @@ use Rattle.serde_json.specs.View.{members_view}
 use Rattle.serde_json.proofs.Views.{Entry}
 use Rattle.theory_definitions.specs.Plan.{making}
 use Rattle.theory_definitions.specs.Units.{absorbed_in, unknown}
-use Rattle.schema_traits.specs.MakerViews.{maker_reply_of}
+use Rattle.schema_traits.specs.MakerViews.{is_own, maker_reply_of}
 use Rattle.schema_traits.specs.EdgeViews.{edge_of}
 use Rattle.schema_node_table.specs.NodeViews.{entry_of}
 use Rattle.schema_keys.specs.KeyViews.{key_of}
@@ -52,7 +52,7 @@ abbrev pub invariant-make_entry-loop-children : goal.invariant-make_entry-loop-c
 invariant-make_entry-loop-children g l =
     let v = key_of g.R.Resolver.point in
     let w = given_parts (g.R.Resolver.resolving l.self.resolver.now) (g.T.KeywordTable.owned l.self.table.now) (g.T.KeywordTable.script l.self.table.now) l.self.options.now in
-    (Asked w g.K.Validate.shape l.self.options.now.node_limit l.self.nested_limit (v l.key) (string_bytes l.head.name.now) (making w (v l.key) (members_view l.members.entries) l.head.is_own (string_bytes l.head.name.now))
+    (Asked w g.K.Validate.shape l.self.options.now.node_limit l.self.nested_limit (v l.key) (string_bytes l.head.name.now) (making w (v l.key) (members_view l.members.entries) (is_own l.head.origin) (string_bytes l.head.name.now))
     (g.T.KeywordTable.waiting l.maker) (maker_reply_of l.reply) (map (option_map edge_of) l.children.items)
     (map v l.initial.compiled.keys) (map v l.compiled.keys) l.initial.compiled.nodes l.compiled.nodes (filled g.R.Resolver.point l.initial.compiled) (filled g.R.Resolver.point l.compiled))
     × (l.absorbed.items ≡ l.initial.absorbed.items)
