@@ -1,4 +1,8 @@
 //! The nodes of a compiled schema, by number.
+//!
+//! A number that waits has a node without a form and without a round. The rank of a node follows
+//! from its round, its order and whether it is final, so no pass computes it, and it cannot
+//! overflow.
 ghost use Rattle.std.specs.Prelude.{◌≡◌, ◌<◌, [], ℕ, Some, true, false};
 ghost use Rattle.std.specs.Prelude.{length, map, option_map, slice_get, string_bytes};
 ghost use Rattle.schema_node_table.specs.NodeViews.{boolean_plan, entry_of, plan_of, reserved_node, unfilled_node, waiting_node, node_of};
@@ -55,11 +59,13 @@ pub struct Node<K> {
     /// `start` is the number of bytes of the location that lie outside the resource.
     pub base: Option<String>,
     pub start: usize,
-    /// The number that its compilation round began with; `None` while it waits.
+    /// The number that its round began with; `None` while it waits.
     pub round: Option<usize>,
     /// How many nodes had their form before it; 0 while it has none.
     pub order: usize,
-    /// Whether it is final: when it got its form, all its edges led to final nodes.
+    /// Whether it is final.
+    ///
+    /// It is if all its edges led to final nodes when it got its form.
     pub settled: bool,
     /// The members that no keyword knows, as an object, if there are any.
     pub annotations: Option<Value>,
@@ -117,7 +123,7 @@ impl<K: Drop> Nodes<K> {
         self.nodes.len()
     }
 
-    /// States that the table is ordered. Does nothing when it runs.
+    /// States that the table is ordered. Does nothing at run time.
     pub fn assert_ordered(&self)
         ensures ordered { (finished : ℕ) × IsOrdered self.now finished }
     {
@@ -163,7 +169,7 @@ impl<K: Drop> Nodes<K> {
     ///
     /// # Errors
     ///
-    /// Out of memory. The table is then unchanged.
+    /// Out of memory. Then nothing has changed.
     pub fn reserve(
         &mut self,
         location: Location,
@@ -180,7 +186,7 @@ impl<K: Drop> Nodes<K> {
     ///
     /// # Errors
     ///
-    /// Out of memory. The table is then unchanged.
+    /// Out of memory. Then nothing has changed.
     pub fn defer(
         &mut self,
         location: Location,
@@ -252,7 +258,7 @@ impl<K: Drop> Nodes<K> {
     ///
     /// # Errors
     ///
-    /// Out of memory. The table is then unchanged.
+    /// Out of memory. Then nothing has changed.
     pub fn from_boolean(
         &mut self,
         location: Location,
@@ -275,7 +281,7 @@ impl<K: Drop> Nodes<K> {
     ///
     /// # Errors
     ///
-    /// Out of memory. The table is then unchanged.
+    /// Out of memory. Then nothing has changed.
     pub fn from_keywords(
         &mut self,
         location: Location,
@@ -303,7 +309,7 @@ impl<K: Drop> Nodes<K> {
     ///
     /// # Errors
     ///
-    /// Out of memory. The table is then unchanged.
+    /// Out of memory. Then nothing has changed.
     pub fn from_array(
         &mut self,
         location: Location,
@@ -345,7 +351,7 @@ impl<K: Drop> Nodes<K> {
         entry.form.is_some() && entry.settled
     }
 
-    /// Returns `true` if an edge to the number, made in this round, is guarded.
+    /// Returns `true` if an edge made to the number in this round is guarded.
     pub fn guards_from(&self, node: SchemaNode, round: usize) -> bool
         requires within { node.0 < length self.now }
         ensures guards { (n : NodeEntry K) × (slice_get self.now node.0 ≡ Some n) × (result ≡ guards_at round n) }

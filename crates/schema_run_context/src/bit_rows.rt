@@ -28,7 +28,7 @@ impl Model for Rows {
     ghost view = { λ r. rows_of r.rows.items };
 }
 
-/// Returns the number of words in a row that has one bit for each of these places.
+/// Returns the number of words in a row with one bit for each place.
 pub fn row_words(places: usize) -> usize
     ensures words { result ≡ row_words places }
 {
@@ -167,9 +167,9 @@ impl Rows {
         Ok(())
     }
 
-    /// Sets or clears the bit of a place in the row of a number. Allocates nothing.
+    /// Sets or clears the bit of a place in the row of a number.
     ///
-    /// The bits of the places begin at the word `from` of the row.
+    /// The bits of the places begin at the word `from` of the row. Allocates nothing.
     pub fn put_bit(&mut self, node: usize, from: usize, place: usize, on: bool)
         requires there { from + place / 64 < length (row_in self.old node) }
         ensures put { PutsBit node (64 * from + place) on self.old self.new }

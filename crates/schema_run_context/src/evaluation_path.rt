@@ -1,4 +1,7 @@
 //! The evaluation path of a node, built only if its text is requested.
+//!
+//! A path is under a reference if it lies below an entry that is a reference. An edge that a maker
+//! requested for a reference of its own leads to a child of a keyword, so it does not count.
 ghost use Rattle.std.specs.Prelude.{◌≡◌, ◌++◌, IfSome, OnOk, true};
 ghost use Rattle.schema_traits.specs.Showing.{Yields};
 ghost use Rattle.theory_definitions.specs.Pointer.{joined};
@@ -95,7 +98,7 @@ impl<'p> EvaluationPath<'p> {
         }
     }
 
-    /// Returns whether the path, or one that it continues, is under a reference.
+    /// Returns whether the path or one that it continues is under a reference.
     pub fn is_under_reference(&self) -> bool
         ensures under { result ≡ is_under_reference self.now }
     {
@@ -139,7 +142,7 @@ impl<'p> EvaluationPath<'p> {
         self.with_room(alloc, 0)
     }
 
-    /// Returns the path of a keyword with this name after this path, and of the rest.
+    /// Returns this path, continued by a keyword's name and the rest.
     ///
     /// # Errors
     ///
@@ -153,7 +156,7 @@ impl<'p> EvaluationPath<'p> {
     }
 }
 
-/// Returns the path of a keyword with this name after a location, and of the rest.
+/// Returns a location, continued by a keyword's name and the rest.
 ///
 /// # Errors
 ///

@@ -14,7 +14,7 @@ use std::collections::HashMap;
 use std::hash::{FoldHasher, Hasher};
 use std::marker::Model;
 
-/// The request for a path under a reference from which on the paths are cached.
+/// Caching begins with this request for a path under a reference.
 const KEPT_FROM: u32 = 4096;
 
 /// A path and the parts that it was built from.
@@ -222,7 +222,7 @@ impl KeptPaths {
         Ok(made)
     }
 
-    /// Returns the path of a keyword with this name after a path, and of the rest.
+    /// Returns a path, continued by a keyword's name and the rest.
     ///
     /// The path is always the one that `EvaluationPath::of_keyword` returns. A path that is not
     /// under a reference is built anew, and so are the first ones under references. From then on

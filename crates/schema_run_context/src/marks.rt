@@ -100,7 +100,7 @@ impl Marks {
         }
     }
 
-    /// Returns whether the list holds the same mark, and adds this one if it does not.
+    /// Returns whether the list holds the same mark, and adds it if not.
     ///
     /// # Errors
     ///

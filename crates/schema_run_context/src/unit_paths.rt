@@ -1,6 +1,9 @@
 //! The texts of units, stored by the path that led to each unit.
 //!
-//! A text that is requested again soon is built once, and shared.
+//! A text that is requested again soon is built once, and shared. The stored numbers only propose
+//! texts, and each text is compared before it is used. So no fact about the numbers is needed for
+//! correctness, and a wrong number costs only time and memory. A search begins at the unit that was
+//! requested last, which suits items, and goes on to those that came after it, which suits members.
 ghost use Rattle.std.specs.Prelude.{◌≡◌, [], IfOk, IfSome, true};
 ghost use Rattle.theory_definitions.specs.Pointer.{escaped, joined};
 ghost use Rattle.schema_run_context.specs.EvaluationPaths.{is_under_reference, path_of};
@@ -11,7 +14,7 @@ use schema_reports::{Location, OutOfMemory, SharedLocation};
 use std::alloc::Global;
 use std::mem;
 
-/// The number of units that a search compares, the last requested one first.
+/// The greatest number of units that a search compares.
 const LOOKS: usize = 8;
 
 /// The texts of a unit: its evaluation path and its location in the schema.
@@ -282,7 +285,7 @@ impl UnitPaths {
         }
     }
 
-    /// Returns the texts of the unit of a node that has this path and this location.
+    /// Returns the texts of a node's unit, for the node's path and location.
     ///
     /// # Errors
     ///
@@ -312,7 +315,7 @@ impl UnitPaths {
         self.keep(None, path, schema, under_reference)
     }
 
-    /// Returns the texts of the unit of a keyword, for its node's path and location.
+    /// Returns the texts of a keyword's unit, for its node's path and location.
     ///
     /// # Errors
     ///

@@ -1,4 +1,8 @@
 //! The state of a run: pairs in progress, unfinished matches, marks and verdicts.
+//!
+//! The verdict of a guarded question depends on the pairs that are in progress at its place, and on
+//! no other pairs. So such a verdict is kept and read only if no other node is in progress there.
+//! The marks belong to one run of a keyword, so they are set aside while another one runs.
 ghost use Rattle.std.specs.Prelude.{◌≡◌, ◌≤◌, [], IfOk, IfSome, OnErr, OnOk, is_some, true, OnSome};
 ghost use Rattle.std.specs.Borrow.{sem};
 ghost use Rattle.schema_traits.specs.Showing.{Yields};
@@ -34,14 +38,13 @@ use std::marker::Model;
 use std::mem;
 use unfinished_matches::{Match, MatchAssumptions, MatchSite, Reason};
 
-/// A verdict that took this many guarded visits, its own included, is remembered.
+/// A verdict is remembered if it took this many guarded visits.
 const MEMO_MIN_VISITS: u64 = 16;
 
 /// The state of one run.
 ///
 /// It holds:
-/// - the pairs of a node and a place that are in progress, the last entered last, and no pair
-/// twice;
+/// - the pairs of a node and a place that are in progress, each once, the last entered last;
 /// - what the run assumes about unfinished matches, and those that it met;
 /// - the marks of the current run of a keyword;
 /// - the verdicts that the run remembers, of guarded questions and of shared nodes, and the number
@@ -110,7 +113,7 @@ impl<'i> Model for ValidationContext<'i> {
 impl<'i> ValidationContext<'i> {
     ghost use Rattle.schema_run_context.specs.Lending.{EndsAs};
 
-    /// Returns a context for an instance with these places, without any assumptions.
+    /// Returns a context for an instance with these places, without assumptions.
     ///
     /// Nothing is in progress, marked or remembered. Allocates nothing.
     pub fn new(alloc: Global, places: PlacesOnDemand<'i>) -> ValidationContext<'i>
@@ -122,8 +125,7 @@ impl<'i> ValidationContext<'i> {
     /// Returns a context for an instance with these places, with assumptions.
     ///
     /// Nothing is in progress or marked, and no verdict is remembered. The unfinished matches that
-    /// were met
-    /// under the assumptions stay remembered. Allocates nothing.
+    /// were met under the assumptions stay remembered. Allocates nothing.
     pub fn assuming(
         alloc: Global,
         places: PlacesOnDemand<'i>,
@@ -156,7 +158,9 @@ impl<'i> ValidationContext<'i> {
         self.work = work;
     }
 
-    /// Returns the number of nodes that the run may still evaluate. Allocates nothing.
+    /// Returns the number of nodes that the run may still evaluate.
+    ///
+    /// Allocates nothing.
     pub fn work(&self) -> Work
         ensures work { result ≡ self.now.work }
     {
@@ -258,7 +262,9 @@ impl<'i> ValidationContext<'i> {
         Ok(false)
     }
 
-    /// Removes the pair, which must be the last one entered. Allocates nothing.
+    /// Removes the pair, which must be the last one entered.
+    ///
+    /// Allocates nothing.
     pub fn exit(&mut self, node: SchemaNode, place: usize)
         requires known { IsPlaceIn self.old place }
         requires last { EndsWith node.0 (place_in self.old place) self.old.in_progress }
@@ -273,7 +279,7 @@ impl<'i> ValidationContext<'i> {
         self.counts[place] = count - 1;
     }
 
-    /// Returns whether the keyword's run holds the same mark, and adds it if not.
+    /// Returns whether the run holds the same mark, and adds it if not.
     ///
     /// Two marks are the same if they are of the same request, or of children whose edges lead to
     /// the same node and are guarded alike. If the mark is added, the result is `false`.
@@ -304,7 +310,7 @@ impl<'i> ValidationContext<'i> {
         self.marking.exit();
     }
 
-    /// Removes and returns the marks, so that a keyword's run begins with none.
+    /// Takes the marks out, so that a keyword's run begins with none.
     ///
     /// Allocates nothing.
     pub fn set_aside(&mut self, alloc: Global) -> Marks
@@ -353,7 +359,7 @@ impl<'i> ValidationContext<'i> {
         }
     }
 
-    /// Returns the outcome of an unfinished match that needs no more remembering.
+    /// Returns the outcome of an unfinished match unless it must be remembered.
     ///
     /// If the result is `None`, the match has to be resolved with its site. `has_place` says
     /// whether that site has an instance path.
@@ -413,9 +419,9 @@ impl<'i> ValidationContext<'i> {
         self.known.verdict_in(node.0, place)
     }
 
-    /// Returns the remembered verdict unless another node is in progress at the place.
+    /// Returns the remembered verdict, if it may be read.
     ///
-    /// Allocates nothing.
+    /// It may not be read if another node is in progress at the place. Allocates nothing.
     pub fn get_cached_result(&self, node: SchemaNode, place: usize) -> Option<bool>
         requires known { IsPlaceIn self.now place }
         ensures read { result ≡ read_verdict node.0 (place_in self.now place) self.now }
@@ -428,10 +434,10 @@ impl<'i> ValidationContext<'i> {
         }
     }
 
-    /// Counts a visit to a guarded node, and returns the mark for `cache_result`.
+    /// Counts a visit to a guarded node.
     ///
-    /// The mark is the number of earlier visits. The count saturates at `u64::MAX`. Allocates
-    /// nothing.
+    /// Returns the mark for `cache_result`, which is the number of earlier visits. The count
+    /// saturates at `u64::MAX`. Allocates nothing.
     pub fn start_ref_visit(&mut self) -> u64
         ensures mark { result ≡ self.old.visits }
         ensures counted { self.new ≡ record self.old { visits = one_more self.old.visits } }
@@ -523,7 +529,7 @@ impl<'i> ValidationContext<'i> {
         self.visits = 0;
     }
 
-    /// Returns the path of a keyword with this name after a path, and of the rest.
+    /// Returns a path, continued by a keyword's name and the rest.
     ///
     /// The path is always the one that `EvaluationPath::of_keyword` returns. Once many paths under
     /// references were requested, they are cached. The context stays the same as contracts see it.
@@ -544,7 +550,7 @@ impl<'i> ValidationContext<'i> {
         self.kept_paths.evaluation_path(alloc, path, name, rest)
     }
 
-    /// Returns the texts of the unit of a node that has this path and this location.
+    /// Returns the texts of a node's unit, for the node's path and location.
     ///
     /// The context stays the same as contracts see it.
     ///
@@ -565,7 +571,7 @@ impl<'i> ValidationContext<'i> {
         self.unit_paths.of_node(alloc, path, location)
     }
 
-    /// Returns the texts of the unit of a keyword, for its node's path and location.
+    /// Returns the texts of a keyword's unit, for its node's path and location.
     ///
     /// The context stays the same as contracts see it.
     ///
@@ -605,7 +611,7 @@ impl<'i> ValidationContext<'i> {
         self.unit_paths.path_of_keyword(alloc, path, name)
     }
 
-    /// Returns whether the string is a pattern of ECMA-262 according to the matcher.
+    /// Returns whether the matcher accepts the string as an ECMA-262 pattern.
     ///
     /// # Errors
     ///

@@ -56,7 +56,7 @@ impl Work {
         }
     }
 
-    /// Returns whether the call tried to evaluate more nodes than the limit allows.
+    /// Returns whether the call tried to exceed the limit.
     ///
     /// If so, there is a limit, and no nodes are left.
     pub fn is_stopped(&self) -> bool
@@ -66,7 +66,7 @@ impl Work {
         self.stopped
     }
 
-    /// Returns the number of nodes that may still be evaluated, if there is a limit.
+    /// Returns the number of nodes that are left, if there is a limit.
     pub fn left(&self) -> Option<u64>
         ensures left { result ≡ left_of self.now }
     {
@@ -96,7 +96,7 @@ impl Work {
         Ok(())
     }
 
-    /// Deducts this many evaluated nodes, or all that are left if they are fewer.
+    /// Deducts this many nodes, or all that are left if they are fewer.
     pub fn spend(&mut self, asked: u64)
         ensures fewer { self.new ≡ record self.old { left = self.old.left - asked } }
     {

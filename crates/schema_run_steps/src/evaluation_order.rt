@@ -1,7 +1,8 @@
 //! The order of the units of a schema's entries.
 //!
 //! The unit of an absorbed `type` comes first. Those of absorbed counts come before the first entry
-//! that looks inside the instance.
+//! that looks inside the instance. The units of the entries are in one list of exact size, which is
+//! cut in two only if something is absorbed.
 ghost use Rattle.std.specs.Prelude.{◌≡◌, Bool, IfOk, map, OnOk};
 ghost use Rattle.schema_reports.specs.UnitViews.{unit_of};
 ghost use Rattle.theory_definitions.specs.UnitOrder.{all_placed, nothing_placed, placed, with_absorbed};
@@ -17,7 +18,7 @@ pub struct AbsorbedUnit {
     pub unit: EvaluationNode,
 }
 
-/// The unit of an entry, and those of the keywords that it absorbs in their order.
+/// The unit of an entry, and those of the keywords that it absorbs, in order.
 #[derive(Drop)]
 pub struct EntryUnits {
     pub own: EvaluationNode,
@@ -41,7 +42,7 @@ pub struct UnitsInOrder {
 }
 
 impl UnitsInOrder {
-    /// Returns an empty list of units, with room for those of this many entries.
+    /// Returns an empty list, with room for the units of this many entries.
     ///
     /// # Errors
     ///

@@ -52,7 +52,7 @@ impl<'p, 'i> EvaluationPlace<'p, 'i> {
         EvaluationPlace::Numbered(self, number)
     }
 
-    /// Returns the number of the place among the places of an instance, if it exists.
+    /// Returns the number of the place in an instance, if the place exists.
     ///
     /// The search begins at the last place above that carries its number, or else at the root.
     /// Allocates nothing.

@@ -1,6 +1,9 @@
 //! The pair of a node and a place that a guarded question asks about.
 //!
-//! Questions to shared nodes have such a pair too.
+//! Questions to shared nodes have such a pair too. The verdict is looked up before the pair is
+//! entered, so a remembered verdict leaves the context as it was. The contracts here state
+//! everything by which the cycle of calls that runs nodes decides, so the error of a wrong body
+//! shows as an open goal of one clause.
 ghost use Rattle.std.specs.Prelude.{◌≡◌, IfOk, OnErr, OnOk, Some, false, is_some, true};
 ghost use Rattle.serde_json.specs.View.{view};
 ghost use Rattle.theory_definitions.specs.Instance.{subject_at};
@@ -86,7 +89,9 @@ impl<'q, 'i> GuardedPair<'q, 'i> {
         Ok(())
     }
 
-    /// Removes the pair, which must be the last one entered. Allocates nothing.
+    /// Removes the pair, which must be the last one entered.
+    ///
+    /// Allocates nothing.
     pub fn exit(&self, context: &mut ValidationContext<'i>)
         requires numbered { HasNumberIn self.now context.old }
         requires last { IsLastIn self.now context.old }
@@ -96,7 +101,7 @@ impl<'q, 'i> GuardedPair<'q, 'i> {
         context.exit(self.node, self.number);
     }
 
-    /// Returns the verdict of the pair if it is known before its node is evaluated.
+    /// Returns the verdict of the pair, if it is known without a run of its node.
     ///
     /// It is `true` if the pair is in progress. Otherwise it is the remembered one, unless another
     /// node is in progress at its place. Allocates nothing.

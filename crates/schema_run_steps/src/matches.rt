@@ -1,4 +1,7 @@
 //! The matches that a keyword requests.
+//!
+//! A match whose outcome is known needs no site. No site is built for it, since building and
+//! dropping one took a third of a search over many texts.
 ghost use Rattle.std.specs.Prelude.{◌≡◌, IfOk, OnOk};
 ghost use Rattle.theory_definitions.specs.Instance.{Text};
 ghost use Rattle.theory_definitions.specs.Matching.{finished};
@@ -81,7 +84,7 @@ fn asked_match<'i, K, M: Matcher>(
     }
 }
 
-/// Returns the outcome of the match that a step of a keyword of the node requests.
+/// Returns the outcome of the match that a step of a keyword requests.
 ///
 /// If the step requests no match, the result is `false`.
 ///

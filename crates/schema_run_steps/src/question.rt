@@ -15,7 +15,7 @@ pub struct Engine<'r, K, M> {
     pub matcher: &'r M,
 }
 
-/// An instance to validate, with its place, the path that led there, and the mode.
+/// An instance to validate, with its place, the path to it, and the mode.
 #[derive(Clone, Copy)]
 pub struct Question<'q, 'i> {
     pub instance: Instance<'i>,

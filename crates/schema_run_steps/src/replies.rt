@@ -147,7 +147,7 @@ fn stamp<'i, K>(
     Ok(())
 }
 
-/// Returns the error with the absolute location of a keyword, unless it has one.
+/// Returns the error with a keyword's absolute location, unless it has one.
 ///
 /// # Errors
 ///

@@ -11,7 +11,7 @@ use schema_reports::{Instance, InstanceStep, OutOfMemory, Place};
 use schema_traits::Below;
 use std::alloc::Global;
 
-/// Returns the step to a child's instance, or `None` if it is the keyword's own.
+/// Returns the step to a child's instance; `None` if it is the keyword's own.
 pub fn step_below<'s>(below: Below<'s>) -> Option<InstanceStep<'s>>
     ensures step { MatchOption result (below_of below.entry ≡ here) (λ s. below_of below.entry ≡ down (step_of s)) }
 {
@@ -40,7 +40,7 @@ pub fn after<'i>(
     }
 }
 
-/// Returns what is one step below and the step, or `None` for the instance itself.
+/// Returns what is one step below, with the step; `None` for `Below::Here`.
 #[inline(always)]
 pub fn one_below<'i>(
     instance: Instance<'i>,

@@ -118,9 +118,7 @@ pub fn accepting_unit<K>(
     Ok(places.unit(true, None, Vec::new(alloc), ChildList::new(alloc)))
 }
 
-/// Returns the unit in place of a child that a keyword's request did not get.
-///
-/// It is valid, at empty locations.
+/// Returns the unit for a child without an edge: valid, at empty locations.
 ///
 /// # Errors
 ///

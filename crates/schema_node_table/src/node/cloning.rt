@@ -168,7 +168,9 @@ fn clone_weights(weights: &Vec<u8>) -> Result<Vec<u8>, OutOfMemory>
 }
 
 impl<K: CloneKeyword> Nodes<K> {
-    /// Returns a clone of the table: each keyword is cloned, and all else is the same.
+    /// Returns a clone of the table.
+    ///
+    /// Each keyword is cloned, and all else is the same.
     ///
     /// # Errors
     ///

@@ -2,7 +2,8 @@
 //!
 //! A number is shared if at least two edges lead to it, no guarded edge is reached from it, and its
 //! evaluation takes many nodes. The answer of such a number at a place is the same whatever is in
-//! progress there.
+//! progress there, so its verdict may be kept for the whole run. Lighter numbers are not shared,
+//! because numbering the places would cost more than evaluating them again.
 ghost use Rattle.std.specs.List.{list_all};
 ghost use Rattle.std.specs.Prelude.{◌≡◌, ◌≤◌, ℕ, IfOk, Option, Some, nat_le, option_map, slice_index_or, true};
 ghost use Rattle.schema_traits.specs.EdgeViews.{edge_of};
