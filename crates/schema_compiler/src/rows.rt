@@ -9,7 +9,7 @@ ghost use Rattle.schema_compiler.specs.Rows.{CircleCloses, FoundNested, FoundWai
 /// cycle.
 ///
 /// The example is computed from the definitions alone, with a tiny resolver, table, matcher and
-/// keyword type. The function does nothing when it runs.
+/// keyword type. The function does nothing at run time.
 pub fn guarded_rows()
     ensures circle_closes { CircleCloses }
     ensures found_nested { FoundNested }

@@ -2,7 +2,8 @@
 //!
 //! An embedded resource of another known draft counts as `{}` in the document around it, and is a
 //! document of its own. `embedded` finds these resources, and `masked` copies a document without
-//! them.
+//! them. The check validates the schema that the resolver has at the root's place, so what is
+//! checked is what is compiled. It reads a subschema once, together with the schema around it.
 ghost use Rattle.std.specs.Prelude.{◌≡◌, IfErr, IfOk, OnOk};
 ghost use Rattle.serde_json.specs.View.{view};
 ghost use Rattle.theory_definitions.specs.Plan.{schema_at};
@@ -69,7 +70,7 @@ pub fn validate_schema<R: Resolver, V: MetaValidators>(
 }
 
 impl<'p, R: Resolver, V: MetaValidators> SchemaCheck<'p, R, V> {
-    /// Returns whether a value is accepted without validation: a boolean, or `{}`.
+    /// Returns whether a value needs no validation: a boolean, or `{}`.
     fn passes_unseen(&self, value: &Value) -> bool
         ensures unseen { result ≡ documents.passes_unseen (parts_asked R.Resolver self.now) (view value.now) }
     {
@@ -109,7 +110,7 @@ impl<'p, R: Resolver, V: MetaValidators> SchemaCheck<'p, R, V> {
         self.refusal(draft, &masked)
     }
 
-    /// Returns an error in the document at a place, relative to the root schema.
+    /// Returns an error of the document at a place, relative to the root.
     fn locate(&self, place: &SchemaPlace, error: OwnedError) -> Result<OwnedError, OutOfMemory>
         ensures located { Shows owned_error_of result
             (prefixed (location_from (place_of self.now.root.now) (place_of place.now)) (owned_error_of error)) }

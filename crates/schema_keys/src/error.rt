@@ -1,4 +1,7 @@
 //! The reasons why no validator is built.
+//!
+//! The error of a table keeps the place that the table gave it, because a maker does not know where
+//! its object is.
 ghost use Rattle.std.specs.Prelude.{◌≡◌, Some};
 ghost use Rattle.schema_keys.specs.Refusing.{number_of};
 
@@ -34,7 +37,7 @@ pub enum BuildError {
 }
 
 impl BuildError {
-    /// Returns the variant's number, from 1 to 9 in the order of their declaration.
+    /// Returns the variant's number: 1 to 9, in the order of declaration.
     pub fn number(&self) -> u8
         ensures number { result ≡ number_of self.now }
     {
@@ -57,7 +60,8 @@ impl BuildError {
 /// It has the word `refusal`, the variant's number, the place if there is one, and the reason. The
 /// place is a JSON Pointer in the schema. That of `KeywordRefused` is the schema path of the
 /// table's error, which may be relative to the keyword's own object. `MetaSchema` shows the
-/// meta-schema's keyword too. Only `UnsupportedVocabulary` shows no number.
+/// meta-schema's keyword too. Only `UnsupportedVocabulary` shows no number, because its text is the
+/// one that the original library writes.
 impl fmt::Display for BuildError {
     ghost use Rattle.schema_keys.specs.Refusing.{refusal_text};
 

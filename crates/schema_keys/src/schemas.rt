@@ -1,4 +1,7 @@
 //! The places of a document's schemas: its objects and booleans.
+//!
+//! They are listed before any schema is compiled, so a map that leaves places out fails its proof
+//! here.
 ghost use Rattle.std.specs.Prelude.{◌≡◌, ◌++◌, ◌∷◌, [], IfOk, OnOk};
 ghost use Rattle.serde_json.specs.View.{items_view, members_view, view};
 ghost use Rattle.schema_traits.specs.SchemaViews.{schema_step_of};

@@ -160,7 +160,7 @@ impl<'p, 'c, R: Resolver> Context<'p, 'c, R> {
         })
     }
 
-    /// Returns the key of the subschema at a path below, to be compiled by itself.
+    /// Returns the key of the subschema at a path, to be compiled by itself.
     ///
     /// Its location is empty, and no part of that lies outside its resource.
     ///

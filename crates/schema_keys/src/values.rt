@@ -50,7 +50,9 @@ pub fn object_of<'v>(value: Option<&'v Value>) -> Option<&'v Map<String, Value>>
 }
 
 impl<'p, 'c, R: Resolver> Context<'p, 'c, R> {
-    /// Returns the node form of a value that is no object. Only a boolean is a schema.
+    /// Returns the node form of a value that is no object.
+    ///
+    /// Of these values, only a boolean is a schema.
     pub fn plain_form<K: Drop>(&self, value: Option<&Value>) -> Result<NodeForm<K>, BuildError>
         ensures form { IfOk result (λ form. (b : Bool) × (as_bool (read_value value.entry) ≡ Some b) × (plan_of form ≡ boolean_plan b)) }
         ensures refused { IfErr result (Names (not_a_schema self.now.key.now.location ∷ [])) }

@@ -47,7 +47,7 @@ impl Evaluation {
         Evaluation { root }
     }
 
-    /// Returns whether the instance is valid, by the verdict of the outermost unit.
+    /// Returns the verdict of the outermost unit: whether the instance is valid.
     pub fn is_valid(&self) -> bool
         ensures verdict { (texts : Bool) → result ≡ (report_of (unit_of texts self.now)).valid }
     {

@@ -74,8 +74,8 @@ fn put_errors(
     put_value(alloc, object, "errors", Value::Object(errors))
 }
 
-// Adds the annotations of a unit to its object, if there are any. Those of an invalid unit are
-// dropped ones.
+// Adds the annotations of a unit to its object, if there are any. An invalid unit has them
+// as dropped annotations.
 fn put_annotations(
     alloc: Global,
     object: &mut Map<String, Value>,
@@ -97,7 +97,7 @@ fn put_annotations(
     }
 }
 
-/// Returns the URI of a unit's place in the schema if it has one, and else that place as a pointer.
+/// Returns a unit's place in the schema: its URI, or else its pointer.
 pub(crate) fn schema_location(report: &UnitReport) -> &str
     ensures location { result.now ≡ schema_location (report_in true report.now) }
 {

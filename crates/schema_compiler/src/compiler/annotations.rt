@@ -1,7 +1,8 @@
 //! Annotations: the members that are no keyword of the schema.
 //!
 //! These are the members that no keyword is made of, that no keyword absorbs, and whose names the
-//! draft does not know.
+//! draft does not know. So every such member becomes an annotation, except in an object whose
+//! `$ref` overrides its siblings.
 ghost use Rattle.std.specs.Prelude.{◌≡◌, ◌++◌, OnOk, map, option_map, string_bytes, if◌then◌else◌};
 ghost use Rattle.serde_json.specs.Data.{put};
 ghost use Rattle.serde_json.specs.View.{view, members_view};

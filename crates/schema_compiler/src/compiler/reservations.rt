@@ -1,7 +1,12 @@
 //! The numbers that makers reserve.
 //!
 //! Each is in force until its maker ends. Then it stands for a node with only the keyword that was
-//! made, or for a node without an entry. They are counted apart from the numbers of nodes.
+//! made, or for a node without an entry. A reservation is for a place and a purpose, whatever the
+//! key. Reservations are counted apart from nodes, so each key has exactly one node.
+//!
+//! The replies to `Pending` and `Reserve` are specified for two functions inside the crate, and for
+//! no public call, because the law of tables says that they do not change what is compiled. Tests
+//! check that the replies reach the maker.
 ghost use Rattle.std.specs.Prelude.{◌≡◌, ◌++◌, ◌∷◌, [], IfOk, OnErr, OnOk, length, map};
 ghost use Rattle.schema_traits.specs.MakerViews.{purpose_of};
 ghost use Rattle.schema_traits.specs.ResolverViews.{place_of};
@@ -115,7 +120,7 @@ impl Reservations {
         self.items.len()
     }
 
-    /// Returns the last number in force that was reserved for this purpose and object.
+    /// Returns the last number in force for this purpose and object.
     pub(crate) fn pending(
         &self,
         kind: PendingKind,
@@ -157,7 +162,7 @@ impl Reservations {
         Ok(MakerReply::Reserved(PendingSchemaNode(number)))
     }
 
-    /// Gives up the numbers in force from one on, which then stand for this node.
+    /// Gives up the numbers in force from one on. They then stand for this node.
     pub(crate) fn give_up(&mut self, from: usize, node: ReservedNode)
         ensures given_up { self.new ≡ with_nodes_from from (node_of node) self.old }
     {

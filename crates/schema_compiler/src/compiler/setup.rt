@@ -1,4 +1,8 @@
 //! The fixed input of a compilation.
+//!
+//! The input (`Compiler`) and what is filled (`Compilation`) are two values, so each contract of
+//! the compiler's functions is about a task and a table. One clause states both what a function
+//! returns and why it refuses, because each clause is proved at each return.
 pub use schema_keys::CompileOptions;
 use std::alloc::Global;
 

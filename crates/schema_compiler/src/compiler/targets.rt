@@ -27,7 +27,7 @@ impl<'p, R: Resolver, T> Compiler<'p, R, T> {
         }
     }
 
-    /// Returns the key of a reference's target; `None` if the reference is skipped.
+    /// Returns the key of a reference's target; `None` if it is skipped.
     pub(crate) fn target_of<K: Validate>(
         &self,
         key: &SchemaKey<R::State>,

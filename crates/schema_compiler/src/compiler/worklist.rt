@@ -1,7 +1,9 @@
 //! The worklist of keys that wait.
 //!
 //! They were found while as many targets of references were open as may nest. Each is compiled in a
-//! round of its own, in the order in which they were found, which is the order of their numbers.
+//! round of its own, in the order in which they were found, which is the order of their numbers. So
+//! the list is worked off in one pass over the numbers. A round is named by the number that it
+//! begins with.
 ghost use Rattle.std.specs.Prelude.{◌<◌, length, suc};
 ghost use Rattle.schema_node_table.specs.NodeTable.{Waits};
 ghost use Rattle.schema_compiler.specs.Gives.{ComesTo, ComesToEnd, GivesWorked, IsAt};

@@ -1,4 +1,7 @@
 //! Evaluates nodes over instances: builds their units.
+//!
+//! These functions form a cycle of their own and are not a further mode of `run`, because a run
+//! never requests the unit of a child, by the law of the keyword type.
 ghost use Rattle.schema_node.specs.Premises.{ChildMayEvaluate, EntriesMayEvaluate, EntryMayEvaluate, KeywordMayEvaluate, NodeMayEvaluate};
 ghost use Rattle.schema_node.specs.RunAnswers.{UnitOfChild, UnitOfEdge, UnitOfNode, UnitOfPlan, UnitsOfEntries, UnitsOfEntry};
 ghost use Rattle.schema_node.specs.RunAnswers.{UnitsOfKeyword};

@@ -1,4 +1,10 @@
 //! Runs nodes over instances, for the first error or for all errors.
+//!
+//! Some items of arrays are checked for their verdict first, so that items without errors cost no
+//! more than a verdict. This is done only if the matcher finishes every match, because a run for
+//! the verdict may meet matches that a run for errors does not meet. It is also done only if the
+//! replies to the earlier children let a valid item be expected, which `turns` counts. An item that
+//! is validated twice counts twice as work.
 ghost use Rattle.std.specs.Prelude.{◌≡◌, true};
 ghost use Rattle.schema_node.specs.Premises.{ChildMayRun, EntriesMayRun, EntryMayRun, FinishesAll, KeywordMayRun, NodeMayBeRefused};
 ghost use Rattle.schema_node.specs.Premises.{NodeMayReply, NodeMayRun};

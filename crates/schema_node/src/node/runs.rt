@@ -17,7 +17,7 @@ use schema_run_steps::{Engine, EvaluationPlace, Question};
 use schema_traits::{Matcher, Mode, Reply, SchemaNode, Validate};
 use std::alloc::Global;
 
-/// What a run begins with: an instance, its place, the path to it, and the mode.
+/// The question that a run begins with.
 #[derive(Clone, Copy)]
 pub struct FirstQuestion<'q, 'i> {
     pub instance: Instance<'i>,
@@ -33,7 +33,7 @@ pub trait RunNodes<K: Validate> {
     // the nodes, in the order of their numbers
     ghost table: { Self → List (NodeEntry K) };
 
-    /// Runs a node over an instance, for its verdict, its first error or all errors.
+    /// Runs a node over an instance, for its verdict or its errors.
     ///
     /// The reply is of the question's mode, and each error borrows the instance at its place. If
     /// the matcher leaves a match unfinished, its outcome is the one that the context assumes, or

@@ -1,6 +1,9 @@
 //! The turns of a keyword's run, in any mode.
 //!
 //! A child that is requested in the mode for units is evaluated, and any other child is run.
+//!
+//! Three loops take turns. LLVM does not inline a keyword's turn that two places call, so turns
+//! that are taken often are marked `#[inline(always)]`.
 ghost use Rattle.schema_node.specs.Premises.{ChildMayAsk, ChildMayEvaluate, KeywordMayAsk, TurnsMayAsk};
 ghost use Rattle.schema_node.specs.RunAnswers.{AnswerOfChild, AnswerOfKeyword, TurnsOfKeyword};
 

@@ -1,6 +1,13 @@
 //! Runs nodes over instances for the verdict alone.
 //!
 //! A level of an instance takes little stack space, because no reply is moved, only a truth value.
+//! That is why these functions form a cycle of their own: shared with the runs for errors, each
+//! level would hold room for errors.
+//!
+//! Only the functions of shared and guarded edges read and remember verdicts. The contracts state
+//! this for a node whose only entry is a guarded reference. They do not state it for what a
+//! keyword's turns request, so a body that remembers nothing there could be proved too, but would
+//! be slower.
 ghost use Rattle.schema_traits.specs.KeywordViews.{below_of};
 ghost use Rattle.schema_traits.specs.EdgeViews.{edge_of};
 ghost use Rattle.theory_runs.specs.Answered.{a_guarded, a_node, a_plan, a_shared};
@@ -113,8 +120,8 @@ pub(crate) fn verdict_form<'i, K: Validate, M: Matcher>(
 }
 
 // Returns the verdict of an entry by the questions that its keyword asks up front, or by a run if
-// it asks none. Not inlined, so that a keyword that reports its verdict at once does not pay for its
-// stack frame. It takes the whole entry and matches its form again, so that the caller can make
+// it asks none. Not inlined, so that a keyword that reports its verdict at once does not pay for
+// its stack frame. It takes the whole entry and matches its form again, so that the caller can make
 // this call its last one and release its own frame first.
 #[cycle(verdict)]
 #[inline(never)]

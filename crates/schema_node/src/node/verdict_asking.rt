@@ -1,6 +1,7 @@
 //! The verdict of a keyword that asks its questions up front.
 //!
-//! The questions are used only if the matcher finishes every match.
+//! The questions are used only if the matcher finishes every match. Turns meet unfinished matches
+//! in an order of their own, which a run has to keep.
 ghost use Rattle.std.specs.Prelude.{◌≡◌, Bool, true};
 ghost use Rattle.schema_reports.specs.InstanceViews.{subject_of};
 ghost use Rattle.schema_traits.specs.AskedAtOnce.{HoldsAsTold, tells_at_once};
