@@ -51,7 +51,7 @@ module _ {C Run K M : Type 0} (keywords : KeywordMembers C Run K) (matchers : Ma
   abbrev pub RunMeets : wanted.Mode → Remembered → Remembered → Type 0
   RunMeets = MeetsMatches keywords.shape keywords.words keywords.is_whole matchers.matching p instance
 
-  -- ---- a call: its answer by what the nodes say from some depth on, even if chains of references return
+  -- ---- a call, by what the nodes say from some depth on, even if chains of references return
 
   -- the verdict is that of all outcomes of the unfinished matches, and "invalid" past the
   -- validator's limit on runs
@@ -84,7 +84,7 @@ module _ {C Run K M : Type 0} (keywords : KeywordMembers C Run K) (matchers : Ma
   abbrev pub FirstPointsAsNodes : Option ValidationError → Type 0
   FirstPointsAsNodes o = FromSomeDepth keywords.shape keywords.words keywords.is_whole matchers.matching p instance (λ texts v. FirstIsGiven v p.runs texts o)
 
-  -- ---- the same of every sense that the nodes mean; there is one if no chain of references returns
+  -- ---- the same of every sense that the nodes mean; one exists if no chain of references returns
 
   -- the verdict is the sense's
   abbrev pub DecidesInEverySense : Bool → Type 0
@@ -98,7 +98,8 @@ module _ {C Run K M : Type 0} (keywords : KeywordMembers C Run K) (matchers : Ma
   abbrev pub EvaluatesInEverySense : EvaluationNode → Type 0
   EvaluatesInEverySense u = OfEverySense keywords.shape keywords.words keywords.is_whole matchers.matching p instance (λ texts v. EvaluationAnswered v p.runs texts u)
 
-  -- if no match stays unfinished, the units are those that the nodes have beside the sense, under every outcome
+  -- if no match stays unfinished, the units are those that the nodes have beside the sense, under
+  -- every outcome
   abbrev pub UnitsInEverySense : EvaluationNode → Type 0
   UnitsInEverySense u = OfEveryEvaluation keywords.shape keywords.words keywords.is_whole matchers.matching p instance (λ texts v units. UnitsAnswered v texts units u)
 

@@ -38,7 +38,7 @@ module _ (v : Sense) (most : ℕ) (texts : Bool) where
     pub verdict : VerdictSays v most evaluate (report_of (unit_of texts u)).valid
     pub apart : ¬ (branch_at v evaluate [] ≡ None) → IsOfErrors (unit_of texts u)
 
--- if the first run meets no unfinished match, the units are these, under every outcome of the matches
+-- if the first run meets no unfinished match, the units are these, under every outcome
 module _ (v : Sense) (texts : Bool) where
   abbrev pub UnitsAnswered : (Completion → Unit_) → EvaluationNode → Type 0
   UnitsAnswered units u = branch_at v evaluate [] ≡ None → (c : Completion) → unit_of texts u ≡ units c

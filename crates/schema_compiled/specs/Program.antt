@@ -66,7 +66,8 @@ module _ {K S R M : Type 0} (shape : K → S) (words : Bool → Keywords S R) (i
   abbrev pub OfEveryEvaluation : (Bool → Sense → (Completion → Unit_) → Type 0) → Type 0
   OfEveryEvaluation fact = (texts : Bool) → Speaks texts → (v : Sense) → Means texts v → (units : Completion → Unit_) → HaveUnits texts units → fact texts v units
 
-  -- at every great enough depth, if the first run of an evaluation meets no unfinished match, the units are those that the nodes have under every outcome of the matches
+  -- at every great enough depth, if the first run of an evaluation meets no unfinished match, the
+  -- units are those that the nodes have under every outcome of the matches
   abbrev pub HasUnits : EvaluationNode → Type 0
   HasUnits u = (texts : Bool) → Speaks texts → (deep : ℕ) × ((n : ℕ) → deep ≤ n
       → branch_at (guarded_sense (words texts) (matching p.matcher) (numbered shape p.nodes) (subject_in instance) n p.root) evaluate [] ≡ None

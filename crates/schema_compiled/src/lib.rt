@@ -1,4 +1,4 @@
-//! Compiled schemas, the answers of their runs and of their solver, and definitions about them.
+//! Compiled schemas, with the answers of their runs and of their solver.
 #![tactic(auto)]
 
 mod compiled_schema;

@@ -8,6 +8,10 @@ use serde_json::Value;
 use std::alloc::Global;
 
 /// Returns the failure of a call that stopped at this limit.
+///
+/// # Errors
+///
+/// Out of memory.
 pub fn limit_failure<'i>(
     alloc: Global,
     limit: u64,
@@ -30,6 +34,10 @@ pub fn limit_failure<'i>(
 }
 
 /// Returns the failure of a call that stopped at this limit, as the only error.
+///
+/// # Errors
+///
+/// Out of memory.
 pub fn limit_failure_alone<'i>(
     alloc: Global,
     limit: u64,

@@ -50,7 +50,8 @@ module _ {S K R C M : Type 0} (h : Handed S K R C M) where
       pub senses : (n : ℕ) → sense_of p n ≡ sense_of p' n
       pub units : (as' : Assumptions) (n : ℕ) → units_under p as' n ≡ units_under p' as' n
 
-  -- validators that are compiled from one schema, by the same options and the same limit on nested targets, speak alike of every instance
+  -- validators that are compiled from one schema, by the same options and the same limit on nested
+  -- targets, speak alike of every instance
   abbrev pub OneSense : Type 0
   OneSense = (options : Options) (schema : Data) (nested : ℕ) (p p' : Program C M)
       → IsCompiledFrom h options schema nested p → IsCompiledFrom h options schema nested p'
@@ -72,23 +73,23 @@ module _ {S K R C M : Type 0} (h : Handed S K R C M) where
   OneVerdict = OfCalls (λ options schema instance. (b b' : Bool)
       → DecidesGuardedly h options schema instance b → DecidesGuardedly h options schema instance b' → b ≡ b')
 
-  -- two first errors of `validate` agree as those of two validators do: both are none, or the errors are equal; or both are the
-  -- failure; and if texts are not covered, what is said for that case
+  -- two first errors of `validate` agree as those of two validators do: both are none, or the
+  -- errors are equal; or both are the failure; and if texts are not covered, what is said then
   abbrev pub OneFirstError : Type 0
   OneFirstError = OfCalls (λ options schema instance. (o o' : Option ValidationError)
       → FirstGuardedly h options schema instance o → FirstGuardedly h options schema instance o'
       → OfAllCompiled options schema instance (λ texts v. FirstsAgree v options.runs texts o o'))
 
-  -- two lists of errors of `iter_errors` agree as those of two validators do: they are equal; or both are the failure alone; and
-  -- if texts are not covered, what is said then
+  -- two lists of errors of `iter_errors` agree as those of two validators do: they are equal; or
+  -- both are the failure alone; and if texts are not covered, what is said then
   abbrev pub OneErrorList : Type 0
   OneErrorList = OfCalls (λ options schema instance. (es es' : List ValidationError)
       → ErrorsGuardedly h options schema instance es → ErrorsGuardedly h options schema instance es'
       → OfAllCompiled options schema instance (λ texts v. ErrorsAgree v options.runs texts es es'))
 
-  -- two evaluations agree as those of two validators do: their verdicts are equal; both are made of the failure if the call
-  -- does not decide; and if the first run meets an unfinished match and texts are covered, the units are equal, or both are made
-  -- of the failure
+  -- two evaluations agree as those of two validators do: their verdicts are equal; both are made of
+  -- the failure if the call does not decide; and if the first run meets an unfinished match and
+  -- texts are covered, the units are equal, or both are made of the failure
   abbrev pub OneEvaluation : Type 0
   OneEvaluation = OfCalls (λ options schema instance. (u u' : EvaluationNode)
       → EvaluatesGuardedly h options schema instance u → EvaluatesGuardedly h options schema instance u'
@@ -172,22 +173,25 @@ module _ {C Run K M : Type 0} (keywords : KeywordMembers C Run K) (matchers : Ma
   VerdictAgain = OfValidators (λ p instance. (b b' : Bool)
       → DecidesFromSomeDepth keywords matchers p instance b → DecidesFromSomeDepth keywords matchers p instance b' → b ≡ b')
 
-  -- two first errors of `validate` are both none, or equal in place, paths, absolute location, keyword and text; or both are the
-  -- failure, each perhaps at a site of its own; and if texts are not covered, what is said for that case
+  -- two first errors of `validate` are both none, or equal in place, paths, absolute location,
+  -- keyword and text; or both are the failure, each perhaps at a site of its own; and if texts are
+  -- not covered, what is said for that case
   abbrev pub FirstErrorAgain : Type 0
   FirstErrorAgain = OfValidators (λ p instance. (o o' : Option ValidationError)
       → FirstFromSomeDepth keywords matchers p instance o → FirstFromSomeDepth keywords matchers p instance o'
       → NodesSay p instance (λ texts v. FirstsAgree v p.runs texts o o'))
 
-  -- two lists of errors of `iter_errors` are equal in all of these, in one order; or both are the failure alone, each perhaps at a
-  -- site of its own; and if texts are not covered, what is said for that case
+  -- two lists of errors of `iter_errors` are equal in all of these, in one order; or both are the
+  -- failure alone, each perhaps at a site of its own; and if texts are not covered, what is said
+  -- for that case
   abbrev pub ErrorListAgain : Type 0
   ErrorListAgain = OfValidators (λ p instance. (es es' : List ValidationError)
       → ErrorsFromSomeDepth keywords matchers p instance es → ErrorsFromSomeDepth keywords matchers p instance es'
       → NodesSay p instance (λ texts v. ErrorsAgree v p.runs texts es es'))
 
-  -- two evaluations have one verdict; both are made of the failure if the call does not decide; and if the first run meets an
-  -- unfinished match and texts are covered, the units are equal, or both are made of the failure
+  -- two evaluations have one verdict; both are made of the failure if the call does not decide; and
+  -- if the first run meets an unfinished match and texts are covered, the units are equal, or both
+  -- are made of the failure
   abbrev pub EvaluationAgain : Type 0
   EvaluationAgain = OfValidators (λ p instance. (u u' : EvaluationNode)
       → EvaluatesFromSomeDepth keywords matchers p instance u → EvaluatesFromSomeDepth keywords matchers p instance u'

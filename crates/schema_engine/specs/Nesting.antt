@@ -40,7 +40,8 @@ module _ (v : Sense) (most : ℕ) where
   abbrev pub FirstFails : Option Error → Type 0
   FirstFails o = (e : Error) × IsFailure v most validate e × (o ≡ Some e)
 
-  -- both are none, or the two errors are equal in place, paths, absolute location, keyword and text; or both are the failure
+  -- both are none, or the two errors are equal in place, paths, absolute location, keyword and
+  -- text; or both are the failure
   abbrev pub SameFirst : Option Error → Option Error → Type 0
   SameFirst o o' = (o ≡ o') ⊎ (FirstFails o × FirstFails o')
 
@@ -49,8 +50,8 @@ module _ (v : Sense) (most : ℕ) where
   abbrev pub SameErrors : Call → List Error → List Error → Type 0
   SameErrors call es es' = (es ≡ es') ⊎ (OneFailure v most call es × OneFailure v most call es')
 
-  -- if texts are not covered: both are none, or neither is; both are the failure if the call does not decide; and they are
-  -- equal but for the texts if the first run meets no unfinished match
+  -- if texts are not covered: both are none, or neither is; both are the failure if the call does
+  -- not decide; and they are equal but for the texts if the first run meets no unfinished match
   pub record FirstsAgreeUnspoken (o o' : Option ValidationError) : Type 0 where
     pub verdict : is_none o ≡ is_none o'
     pub undecided : ¬ (Decides v most validate) → FirstFails (option_map (error_of true) o) × FirstFails (option_map (error_of true) o')
@@ -82,8 +83,9 @@ module _ (v : Sense) (most : ℕ) where
   abbrev pub SameUnits : Unit_ → Unit_ → Type 0
   SameUnits u u' = (u ≡ u') ⊎ (IsOfFailure true u × IsOfFailure true u')
 
-  -- two evaluations agree: the verdicts are equal; both are made of the failure if the call does not decide; and if the first
-  -- run meets an unfinished match and texts are covered, the units are equal, or both are made of the failure
+  -- two evaluations agree: the verdicts are equal; both are made of the failure if the call does
+  -- not decide; and if the first run meets an unfinished match and texts are covered, the units are
+  -- equal, or both are made of the failure
   pub record EvaluationsAgree (texts : Bool) (u u' : EvaluationNode) : Type 0 where
     pub verdict : verdict_in texts u ≡ verdict_in texts u'
     pub undecided : ¬ (Decides v most evaluate) → IsOfFailure texts (unit_of texts u) × IsOfFailure texts (unit_of texts u')
@@ -134,7 +136,8 @@ module _ {A State S T C Maker Run K M : Type 0} (resolvers : ResolverMembers A S
       → (instance : Data) (u u' : EvaluationNode) → UnitsInEverySense keywords matchers p instance u → UnitsInEverySense keywords matchers p' instance u'
       → PlainlyOf handed_to_both options schema instance (λ texts v. branch_at v evaluate [] ≡ None → unit_of texts u ≡ unit_of texts u'))
 
-  -- ---- two validators of one schema, the second of which may make more runs: what the first decides the second decides alike
+  -- ---- two validators of one schema: the second may make more runs than the first, and decides
+  -- alike what the first decides
 
   abbrev OfSmallerAndLarger : (Options → Data → Program C M → Program C M → Type 0) → Type 0
   OfSmallerAndLarger says = (options : Options) (schema : Data) (nested nested' : ℕ) (p p' : Program C M) → p.runs ≤ p'.runs

@@ -28,8 +28,9 @@ pair_needs nodes count i s busy = elim (list_any (λ k. k == i) busy) [ true ↦
 abbrev pub edge_needs : {K : Type 0} → (NodeEdge → Bool) → Nodes K → ℕ → NodeEdge → Subject → List ℕ → ℕ
 edge_needs cut nodes count e s busy = elim (cut e) [ true ↦ pair_needs nodes count e.node s busy | false ↦ suc (left nodes count e.node s busy) ]
 
--- for answers that fit the facts, provisional ones if one of the others is, all entries have the
--- verdict of the remaining ones; and for any answers, they are invalid if the remaining ones are
+-- all entries have the verdict of the remaining ones, for answers that agree with what is known
+-- and, if `leans` is set, are yes for the pairs that count as valid for now. For any answers, all
+-- entries refuse if the remaining ones do
 pub record SaysTheRest {K R : Type 0} (w : Solving K R) (p : Place) (f : Found) (leans : Bool) (all rest : List (NodePart K)) : Type 0 where
   pub same : (answers : EdgeAnswers) → Fits f leans answers → parts_by w p answers all ≡ parts_by w p answers rest
   pub refuses : (answers : EdgeAnswers) → parts_by w p answers rest ≡ false → parts_by w p answers all ≡ false
@@ -39,9 +40,10 @@ pub record SaysTheRest {K R : Type 0} (w : Solving K R) (p : Place) (f : Found) 
 abbrev pub TellsWhatItAsks : {K R : Type 0} → Setting K R → Subject → K → Asking → Type 0
 TellsWhatItAsks g s m a = (texts : Bool) → MayTell texts (g.is_whole m) s → HoldsAsTold (g.words texts) m s a
 
--- for answers that fit the facts, provisional ones if all have to accept and one of the others is
--- provisional, the keyword has the verdict of the remaining questions; and for any answers, once
--- those have the other verdict, so does the keyword
+-- the keyword has the verdict of the remaining questions, for answers that agree with what is known
+-- and, if all questions have to accept and `leans` is set, are yes for the pairs that count as
+-- valid for now. For any answers, the keyword has the verdict `not all` if the remaining questions
+-- have it
 pub record SaysByTheRest {K R : Type 0} (w : Solving K R) (p : Place) (f : Found) (m : K) (es : Children) (all leans : Bool) (rest : List Question) : Type 0 where
   pub same : (answers : EdgeAnswers) → Fits f (all && leans) answers
       → form_by w p (edges_by w p answers) (node_keyword m es) ≡ answers_say all (child_by w p (edges_by w p answers) es) rest

@@ -43,7 +43,8 @@ abbrev pub EachSays : {S : Type 0} → (S → Bool) → Nodes S → ℕ → Type
 EachSays says nodes count = (i : ℕ) → i < count → All (λ m. says m ≡ true) (node_words (nodes.entries i))
 
 module _ {K R : Type 0} (g : Setting K R) where
-  -- what is solved in a reading of texts; no match stays unfinished, so one outcome is as good as another
+  -- what is solved in a reading of texts; no match stays unfinished, so one outcome is as good as
+  -- another
   abbrev pub solving_in : Data → Bool → Solving K R
   solving_in root texts = record {
     keywords = g.words texts;
@@ -63,15 +64,15 @@ module _ {K R : Type 0} (g : Setting K R) where
   abbrev pub IsStagedIn : Solver → Type 0
   IsStagedIn c = InEach (view c.root) (λ texts w. IsStaged w (found_of c))
 
-  -- so if each keyword is monotone it is so of every set that supports itself
+  -- if each keyword is monotone, everything in it is true of every set that supports itself
   abbrev pub IsSoundIn : Solver → Type 0
   IsSoundIn c = ((texts : Bool) → AreMonotone (g.words texts) g.nodes g.count) → InEach (view c.root) (λ texts w. IsSound w (found_of c))
 
-  -- all numbers that an edge leads to whose pair is looked up
+  -- the list has each number that an edge leads to whose pair is looked up, and perhaps others
   abbrev pub HasEachCut : List ℕ → Type 0
   HasEachCut ns = (i : ℕ) → i < g.count → All (λ e. is_cut g.is_followed e ≡ true → list_any (λ n. e.node == n) ns ≡ true) (node_edges (g.nodes.entries i))
 
-  -- at most as many pairs were begun as the pairs may have cost; if so before, then so after
+  -- if the count of begun pairs was within what the pairs may have cost before, it is so after
   abbrev pub StaysCounted : Solver → Solver → Type 0
   StaysCounted c c' = (ns : List ℕ) → HasEachCut ns → IsCounted (pairs_of ns (solver_places c)) (length ns) (found_of c) c.begun
       → IsCounted (pairs_of ns (solver_places c)) (length ns) (found_of c') c'.begun
@@ -80,7 +81,7 @@ module _ {K R : Type 0} (g : Setting K R) where
   abbrev pub HasRoom : Solver → Type 0
   HasRoom c = (most : ℕ) → g.most ≡ Some most → c.begun < most
 
-  -- if no more pairs were begun than allowed, then no more are
+  -- if no more pairs were begun than allowed before, no more are after
   abbrev pub StaysWithin : Solver → Solver → Type 0
   StaysWithin c c' = (most : ℕ) → g.most ≡ Some most → c.begun ≤ most → c'.begun ≤ most
 

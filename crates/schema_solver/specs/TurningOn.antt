@@ -22,7 +22,7 @@ module _ {K R : Type 0} (g : Setting K R) (m : K) where
   abbrev pub AsksOn : Subject → ℕ → R → Reply → Type 0
   AsksOn s turns r reply = (n : ℕ) × (turns < n) × AlwaysAsksVerdict (g.words false) m s n r reply
 
-  -- in each reading the run is in a good state for all answers of the edges that are as those it
-  -- got, of which no "valid" is provisional more than this
+  -- in each reading the run fits, and ends in the right answer, for all answers that agree with the
+  -- replies so far; a "valid" among these may be provisional only if `leans` is set
   abbrev pub TurnsOn : Data → Place → (Bool → Standing R → Answer) → (Bool → Standing R → Type 0) → Children → Solver → Bool → List Marked → (Bool → R) → (Bool → Reply) → Type 0
   TurnsOn root p end_of fits es c leans marks r reply = InEach g root (λ texts w. TurnsBy w p (found_of c) leans m (end_of texts) (fits texts) es marks (r texts) (reply texts))

@@ -1,4 +1,5 @@
--- How a solver begins: with nothing found. How a pair is begun, and what comes of it when its node has been run and it is left.
+-- How a solver begins: with nothing found. How a pair begins, and what becomes of it when its node
+-- has been run and the pair is left.
 use Rattle.std.specs.Prelude.{[], Some, drop, false, take, true, ℕ, ◌++◌, ◌||◌, ◌∷◌, ◌≡◌, ◌⊎◌}
 use Rattle.serde_json.specs.declared.value.Value.{Value}
 use Rattle.theory_definitions.specs.Instance.{Place}
@@ -48,7 +49,7 @@ pub record OnlyMarks (old new : Solver) : Type 0 where
   pub verdicts : new.verdicts ≡ old.verdicts
   pub begun : new.begun ≡ old.begun
 
--- no pair that was assumed since a mark, which is after the first so many, was assumed before it too
+-- the mark is how many pairs were assumed before it: no pair is assumed both before and since
 abbrev pub IsApart : ℕ → Solver → Type 0
 IsApart mark c = (i : ℕ) (p : Place) → has_pair (drop mark c.assumed) i p ≡ true → has_pair (take mark c.assumed) i p ≡ false
 
@@ -60,8 +61,8 @@ Refuses i p mark old new = (new.assumed ≡ take mark old.assumed) × Remembers 
 abbrev pub IsAlone : Place → Solver → Type 0
 IsAlone p c = (k : ℕ) → has_pair c.in_progress k p ≡ false
 
--- a yes while no other pair is in progress at the place: it is known for good, and so is all that was assumed since the mark, which is
--- assumed no longer
+-- a "valid" while no other pair is in progress at the place: it is known for good, and so is all
+-- that was assumed since the mark, which is assumed no longer
 abbrev pub SettlesAlone : ℕ → Place → ℕ → Solver → Solver → Type 0
 SettlesAlone i p mark old new = IsAlone p old
     × (new.assumed ≡ take mark old.assumed) × SettlesAll ((i, p) ∷ drop mark old.assumed) old.verdicts new.verdicts

@@ -80,7 +80,7 @@ module _ (node : SchemaNode) (place : ℕ) (old new : Solver) where
   abbrev pub SettlesAt : ℕ → Type 0
   SettlesAt mark = SettlesAll ((node.0, place_in old place) ∷ drop mark old.assumed) old.verdicts new.verdicts
 
-  -- a no of it is kept, with the mark
+  -- an "invalid" of it is kept, with the mark
   abbrev pub RefusesAt : ℕ → Type 0
   RefusesAt mark = Refuses node.0 (place_in old place) mark old new
 

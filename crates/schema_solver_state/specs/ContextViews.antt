@@ -1,4 +1,5 @@
--- A solver's fields as what it holds: pairs by the numbers of their places, verdicts as the bits of rows; and what is true of the fields.
+-- What the fields of a solver hold: pairs by the numbers of their places, and verdicts as the bits
+-- of rows. And what is true of the fields.
 use Rattle.std.specs.List.{list_any}
 use Rattle.std.specs.Prelude.{◌==◌, ◌&&◌, All, Bool, List, length, map, not, true, ℕ, ◌*◌, ◌/◌, ◌<◌, ◌≡◌}
 use Rattle.theory_definitions.specs.Instance.{Place}
@@ -29,21 +30,21 @@ pub record SolverHolds (ps : List Place) (pairs : List NumberedPair) (counts : L
   pub progress : Holds ps (pairs_at ps pairs) counts guard known
   pub assumes : Assumes ps assumed yeses
 
--- each pair has its bit, in rows that are as wide
+-- each pair has its bit, in rows of one width
 pub record HaveBits (es : List NumberedPair) (rows : List (List ℕ)) : Type 0 where
   pub words : ℕ
   pub wide : AreWide words rows
   pub there : All (λ e. (e.place / 64 < words) × (has_words (row_in rows e.node.0) ≡ true)) es
 
--- they lose the bits of these pairs, and no other
+-- the rows lose the bits of these pairs, and no others
 abbrev pub ClearsBits : List NumberedPair → List (List ℕ) → List (List ℕ) → Type 0
 ClearsBits es old new = (n k : ℕ) → has_bit (row_in new n) k ≡ (has_bit (row_in old n) k && not (has_number_pair es n k))
 
--- they have room for the verdicts at so many places
+-- the rows have room for the verdicts at this many places
 abbrev pub HoldVerdicts : ℕ → List (List ℕ) → Type 0
 HoldVerdicts count rows = AreWide (2 * row_words count) rows
 
--- the verdict of a pair is remembered, over any places of which there are so many
+-- the verdict of a pair is remembered, whatever the places are, if there are this many
 abbrev pub KeepsVerdict : ℕ → ℕ → ℕ → Bool → List (List ℕ) → List (List ℕ) → Type 0
 KeepsVerdict count n k v old new = (ps : List Place) → OwnNumbers ps → length ps ≡ count → Remembers n (place_at ps k) v (all_verdicts ps old) (all_verdicts ps new)
 

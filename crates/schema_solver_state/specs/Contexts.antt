@@ -8,8 +8,9 @@ use Rattle.schema_run_context.specs.Progress.{Pairs, Verdicts, root_places}
 use Rattle.schema_run_context.specs.Verdicts.{is_pair, verdict_of}
 use Rattle.theory_fixed_points.specs.Found.{Found}
 
--- the instance whose places it speaks of; the pairs in progress and those that are assumed, the last one last; the verdicts that are
--- known; the marks of the keyword's run that is at work; and how many pairs were begun
+-- the instance whose places it speaks of; the pairs in progress and those that are assumed, the
+-- last one last; the verdicts that are known; the marks of the keyword's run that is in progress;
+-- and how many pairs were begun
 pub record Solver : Type 0 where
   pub root : Value
   pub in_progress : Pairs

@@ -46,11 +46,11 @@ ways_in ns i = ways_along (table_edges ns) i
 abbrev pub is_settled_in : {K : Type 0} → List (NodeEntry K) → ℕ → Bool
 is_settled_in ns i = unwrap_or (option_map is_settled_entry (slice_get ns i)) false
 
--- of the ways to each number along some edges the count is kept, as far as two
+-- for each number, how many ways lead to it along some edges, counted as far as two
 abbrev pub AreWays : List NodeEdge → List ℕ → Type 0
 AreWays es ways = EachIndex ways (λ i. slice_index ways i ≡ min 2 (ways_along es i))
 
--- of whatever edges the ways were counted, now they are of those and these
+-- whatever edges were counted before, now those and these are counted
 pub record Counts (es : List NodeEdge) (old new : List ℕ) : Type 0 where
   pub size : length new ≡ length old
   pub counted : (before : List NodeEdge) → AreWays before old → AreWays (before ++ es) new

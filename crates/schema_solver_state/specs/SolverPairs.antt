@@ -66,7 +66,7 @@ module _ (p : SolverPair) (old new : Solver) where
   abbrev pub PairLeaves : Type 0
   PairLeaves = old.in_progress ≡ new.in_progress ++ (p.node.0, place_of p) ∷ []
 
-  -- a no of it is kept, with the mark
+  -- an "invalid" of it is kept, with the mark
   abbrev pub PairRefuses : ℕ → Type 0
   PairRefuses mark = Refuses p.node.0 (place_of p) mark old new
 

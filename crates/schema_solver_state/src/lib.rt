@@ -1,5 +1,6 @@
-//! The state of a solver: pairs of a node and a place with what is known of them, and the numbers
-//! that the solver inlines.
+//! The state of a solver.
+//!
+//! It is what is known of pairs of a node and a place, and which numbers the solver inlines.
 #![tactic(auto)]
 
 mod context;

@@ -1,11 +1,18 @@
 //! A solver's verdict on a question, which may be provisional.
+//!
+//! A verdict takes one byte, and two with the tag of a result. When it took three with the tag, and
+//! each call of the solver returned it so, that was 3 % of the cost of a verdict. Now the solver's
+//! calls return `Told`.
+//!
+//! A "valid" is provisional or it is not; the lowest depth of what it depends on is not kept. With
+//! that depth, a cycle that is entered beside another pair at its place would be settled sooner,
+//! but few schemas have such a cycle.
 ghost use Rattle.std.specs.Prelude.{◌≡◌};
 ghost use Rattle.schema_solver_state.specs.Saying.{said_as, settled_as};
 
 use std::marker::Model;
 
-// The three possible answers. They take one byte, and two with the tag of a result, as a verdict
-// alone does.
+// The three possible answers.
 #[derive(Clone, Copy)]
 enum Answer {
     No,

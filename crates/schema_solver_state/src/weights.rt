@@ -9,8 +9,9 @@ use schema_reports::OutOfMemory;
 use schema_traits::{Edge, SchemaNode};
 use std::alloc::Global;
 
-/// The weight that stands for too many nodes to count. A number that leads to a guarded edge has
-/// it.
+/// The weight of a number that takes too many nodes to count.
+///
+/// A number that leads to a guarded edge has it too.
 pub(crate) const MANY: u8 = 255;
 
 /// Returns the weight of a number by these weights, or `MANY` if it has none.
@@ -76,8 +77,8 @@ fn weigh_node<K: Drop>(node: &Node<K>, weights: &[u8]) -> u8
     }
 }
 
-// Lowers each weight that can be lowered, by the weights of the numbers that its own leads to, and
-// returns whether there was one. Numbers mostly lead to greater ones, so the last comes first.
+// Lowers the weight of each number to one more than its edges weigh together, if that is less, and
+// returns whether a weight changed. Edges mostly lead to greater numbers, so the last comes first.
 fn weigh_each<K: Drop>(nodes: &Nodes<K>, weights: &mut Vec<u8>) -> bool
     requires each { length weights.old.items ≡ length nodes.now }
     requires covers { Covers nodes.now weights.old.items }
@@ -106,8 +107,13 @@ fn uncounted<K: Drop>(alloc: Global, nodes: &Nodes<K>) -> Result<Vec<u8>, OutOfM
     Ok(weights)
 }
 
-/// Returns the weight of each number: how many nodes it takes at most to evaluate it with each edge
-/// followed, or `MANY`.
+/// Returns the weight of each number.
+///
+/// It is how many nodes it takes at most to evaluate the number with each edge followed, or `MANY`.
+///
+/// # Errors
+///
+/// Out of memory.
 pub(crate) fn weights_of<K: Drop>(alloc: Global, nodes: &Nodes<K>) -> Result<Vec<u8>, OutOfMemory>
     ensures each { IfOk result (λ ws. length ws.items ≡ length nodes.now) }
     ensures covers { IfOk result (λ ws. Covers nodes.now ws.items) }

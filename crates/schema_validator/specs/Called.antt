@@ -33,7 +33,7 @@ module _ {S K R C M : Type 0} (h : Handed S K R C M) (options : Options) (schema
   abbrev pub MeansPlainly : Program C M → Type 0
   MeansPlainly p = MeansSchema h.resolver h.table h.matcher h.words options schema h.shape h.is_whole h.matching p
 
-  -- the validator has the units of the plain meaning of schema and parts, if no chain of references returns
+  -- the validator has the units of that plain meaning, if no chain of references returns
   abbrev pub HasPlainUnits : Program C M → Type 0
   HasPlainUnits p = HasSchemasUnits h.resolver h.table h.matcher h.words options schema h.shape h.is_whole h.matching p
 
@@ -126,11 +126,13 @@ module _ {S K R C M : Type 0} (h : Handed S K R C M) (options : Options) (schema
     UnitsGuardedly u = (p : Program C M) × IsProgramOf h.resolver h.table h.matcher options options.nested schema h.shape h.matching p
         × HasUnits h.shape h.words h.is_whole h.matching p instance u
 
-    -- each points at a keyword that its evaluation path leads to, and at a value inside the instance
+    -- each points at a keyword that its evaluation path leads to, and at a value inside the
+    -- instance
     abbrev pub EachLeads : List ValidationError → Type 0
     EachLeads es = PointingOf (λ w root v texts. EachPoints w root instance v options.runs texts es)
 
-    -- each error in a unit points at a keyword that the unit's evaluation path leads to, and at a value inside the instance
+    -- each error in a unit points at a keyword that the unit's evaluation path leads to, and at a
+    -- value inside the instance
     abbrev pub UnitsLead : EvaluationNode → Type 0
     UnitsLead u = PointingOf (λ w root v texts. EvaluationPoints w root instance v options.runs texts u)
 

@@ -1,4 +1,5 @@
--- The check of a schema by the meta validators of its drafts, if the options ask for it. (Core 2020-12, 8.1.1 and 9.3.3)
+-- The check of a schema by the meta validators of its drafts, if the options ask for it.
+-- (Core 2020-12, 8.1.1 and 9.3.3)
 use Rattle.std.specs.Prelude.{true, ◌≡◌}
 use Rattle.serde_json.specs.Data.{Data}
 use Rattle.theory_definitions.specs.Plan.{Key}

@@ -17,11 +17,11 @@ pub record IsCompiled {S K R C : Type 0} (w : Parts S K R) (shape : C → K) (ro
   pub is_root : slice_get keys number ≡ Some root
   pub reached : (i : ℕ) (k : Key S) → slice_get keys i ≡ Some k → Reached w root k
 
--- and numbers and keys correspond one to one: every number has its form, and every key that the
--- root reaches has a number. It says which edges are guarded, too: the keys are found in the one
--- order that the schema and the limit on nested targets determine, and an edge is guarded exactly
--- if, when it was made, its target was in progress, or had a number of an earlier round that was
--- not final
+-- the nodes are compiled, and numbers and keys correspond one to one: every number has its form,
+-- and every key that the root reaches has a number. It says which edges are guarded, too: the keys
+-- are found in the one order that the schema and the limit on nested targets determine, and an edge
+-- is guarded exactly if, when it was made, its target was in progress, or had a number of an
+-- earlier round that was not final
 pub record IsWhole {S K R C : Type 0} (w : Parts S K R) (shape : C → K) (nested : ℕ) (root : Key S) (nodes : List (NodeEntry C)) (number : ℕ) : Type 0 where
   pub compiled : IsCompiled w shape root nodes number
   pub filled : (i : ℕ) (n : NodeEntry C) → slice_get nodes i ≡ Some n → (p : NodePlan C) × (n.plan ≡ Some p)

@@ -40,7 +40,7 @@ module _ {S K R C M : Type 0} (h : Handed S K R C M) (options : Options) where
     abbrev pub FailsEntry : BuildError → Type 0
     FailsEntry e = (texts : Bool) → RefusesKeyAlone (entry_key (parts texts) root path) e ⊎ ((key : Key S) × (entry_key (parts texts) root path ≡ Some key) × compilation.RefusesAlone (parts texts) options.limit key e)
 
-    -- a refusal of the whole map, for one entry: lack of memory, or it reaches more keys than the limit
+    -- a refusal of the whole map for one entry: lack of memory, or more keys than the limit
     abbrev pub RefusesEntry : BuildError → Type 0
     RefusesEntry e = (texts : Bool) → (e ≡ OutOfMemory) ⊎ ((key : Key S) × (entry_key (parts texts) root path ≡ Some key) × RefusesLimit (parts texts) options key e)
 

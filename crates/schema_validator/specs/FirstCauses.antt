@@ -47,10 +47,10 @@ module _ {S K R C M : Type 0} (h : Handed S K R C M) (refuses : MetaChecks) (opt
   abbrev parts : Bool → Parts S K R
   parts texts = parts_of h.resolver h.table h.matcher (h.words texts) options
 
-  -- the refusal of a build, which checks if the options ask for it, and compiles what the root reaches
+  -- the refusal of a build: it checks if the options ask for it, and compiles what the root reaches
   abbrev pub FirstOfBuild : Type 0
   FirstOfBuild = (texts : Bool) → NamesFirstCause (parts texts) schema refuses options.checks (RefusesAlone (parts texts) options.limit) e
 
-  -- the refusal of a map, which checks whatever the options say, and leaves out what does not compile
+  -- the refusal of a map: it checks whatever the options say, and leaves out what does not compile
   abbrev pub FirstOfMap : Type 0
   FirstOfMap = (texts : Bool) → NamesFirstCause (parts texts) schema refuses true (IsPastLimit (parts texts) options) e

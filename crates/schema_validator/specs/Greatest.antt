@@ -30,7 +30,8 @@ abbrev pub NodesAreMonotone : {K S R M : Type 0} → (K → S) → (Bool → Key
 NodesAreMonotone shape words p texts = AreMonotone (words texts) (numbered shape p.nodes) (length p.nodes)
 
 module _ {K S R M : Type 0} (shape : K → S) (words : Bool → Keywords S R) (matching : M → Matcher) (p : Program K M) (texts : Bool) where
-  -- under every outcome of the matches, the largest set of numbers and places that supports itself holds the root's number at the root place
+  -- under every outcome of the matches, the largest set of numbers and places that supports itself
+  -- holds the root's number at the root place
   abbrev pub NodesAccept : Data → Type 0
   NodesAccept instance = (c : Completion) → NodeAcceptsGreatest (words texts) (matching p.matcher) (numbered shape p.nodes) (subject_in instance) c (length p.nodes) p.root []
 

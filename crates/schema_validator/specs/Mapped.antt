@@ -1,5 +1,5 @@
--- The map of validators of a document: a validator for each object and boolean of the document that compiles by itself, under
--- `#` and its pointer; and why there is no map. (section 6 of RFC 6901)
+-- The map of validators of a document: a validator for each object and boolean of the document that
+-- compiles by itself, under `#` and its pointer; and why there is no map. (section 6 of RFC 6901)
 use Rattle.std.specs.Prelude.{Bool, Some, [], flat_map, is_some, length, ◌≡◌, ◌↔◌, ◌∷◌, ◌≤◌, IsTrue}
 use Rattle.serde_json.specs.Data.{Data}
 use Rattle.theory_definitions.specs.Instance.{Place, Text}
@@ -61,7 +61,8 @@ module _ {S K R C M : Type 0} (h : Handed S K R C M) (options : Options) (schema
   abbrev pub EachHasPlainUnits : Entries (Program C M) → Type 0
   EachHasPlainUnits es = OfEach es (λ key p. HasKeysUnits h.resolver h.table h.matcher h.words options key h.shape h.is_whole h.matching p)
 
-  -- each error of its nodes points at a keyword that its evaluation path leads to from this key, and at a value inside the instance
+  -- each error of its nodes points at a keyword that its evaluation path leads to from this key,
+  -- and at a value inside the instance
   abbrev pub EachPointsPlainly : Entries (Program C M) → Type 0
   EachPointsPlainly es = OfEach es (λ key p. PointsFromKey h.resolver h.table h.matcher h.words options key h.shape h.matching p)
 
@@ -78,7 +79,8 @@ module _ {S K R C M : Type 0} (h : Handed S K R C M) (options : Options) (schema
   abbrev pub EachHasSolver : Entries (Program C M) → Type 0
   EachHasSolver es = OfEach es (λ key p. HasSolver p)
 
-  -- its nodes correspond one to one to the keys that this key reaches, which are no more than the limit; its draft is the root's, and its matcher answers as the one of the parts
+  -- its nodes correspond one to one to the keys that this key reaches, which are no more than the
+  -- limit; its draft is the root's, and its matcher answers as the one of the parts
   abbrev pub EachIsCompiledFrom : Entries (Program C M) → Type 0
   EachIsCompiledFrom es = OfEach es (λ key p. (length p.nodes ≤ options.limit) × IsProgramFrom h.resolver h.table h.matcher options options.nested schema h.shape h.matching key p)
 
@@ -93,14 +95,16 @@ module _ {S K R C M : Type 0} (h : Handed S K R C M) (options : Options) (schema
     pub within : length p.nodes ≤ options.limit
     pub program : IsProgramFrom h.resolver h.table h.matcher options options.nested schema h.shape h.matching key p
 
-  -- each object or boolean of the document that compiles has a validator of its own key under its own name: no two places have one name
+  -- each object or boolean of the document that compiles has a validator of its own key under its
+  -- own name: no two places have one name
   abbrev pub HoldsEach : Entries (Program C M) → Type 0
   HoldsEach es = (texts : Bool) (root : Key S) → IsRootKey (parts texts) schema root → (path : Place) (c : IsCompiled (parts texts) root path)
       → (p : Program C M) × (at_pointer es (name_of path) ≡ Some p) × IsValidatorOf c.key p
 
   -- ---- when there is a map
 
-  -- the root has one key, whose vocabularies are declared, and each document of the schema is accepted by its draft's meta validator, whatever the options say
+  -- the root has one key, whose vocabularies are declared, and each document of the schema is
+  -- accepted by its draft's meta validator, whatever the options say
   pub record MapBuilds (refuses : MetaChecks) (texts : Bool) : Type 0 where
     pub root : Key S
     pub is_root : IsRootKey (parts texts) schema root
@@ -111,7 +115,9 @@ module _ {S K R C M : Type 0} (h : Handed S K R C M) (options : Options) (schema
   abbrev pub MapIsBuilt : MetaChecks → Type 0
   MapIsBuilt refuses = (texts : Bool) → MapBuilds refuses texts
 
-  -- why there is none: the root has no key, or its vocabularies are not declared, or a document is refused, or an object or boolean of the document reaches more keys than the limit, by itself; lack of memory says nothing
+  -- why there is no map: the root has no key, or its vocabularies are not declared, or a document
+  -- is refused, or an object or boolean of the document reaches by itself more keys than the limit;
+  -- lack of memory says nothing
   pub data Refusal (refuses : MetaChecks) (texts : Bool) (e : BuildError) : Type 0 where
     no_root : RefusesKey (parts texts) schema e → Refusal refuses texts e
     not_declared : (root : Key S) → IsRootKey (parts texts) schema root → RefusesVocabularies (parts texts) root e → Refusal refuses texts e

@@ -31,7 +31,7 @@ module _ {S K R : Type 0} (w : Parts S K R) (root : Key S) (instance : Data) (v 
   FirstPoints texts None = Unit {0}
   FirstPoints texts (Some e) = Either (Decides v most validate) (PointsAt w root instance (error_of texts e) ⊎ IsFailure v most validate (error_of true e)) (IsFailure v most validate (error_of true e))
 
-  -- there is one unit for each of these errors, inside one at empty locations, and the errors point so
+  -- there is one unit for each of these errors, inside one at empty locations; the errors point so
   pub record IsOfPointing (texts : Bool) (u : Unit_) : Type 0 where
     pub errors : List ValidationError
     pub made : u ≡ errors_unit (map (error_of texts) errors)

@@ -35,7 +35,9 @@ module _ {S K R : Type 0} (resolver : Resolver S) (table : Table K) (matcher : M
   HasKeysUnits shape is_whole matching p = (instance : Data)
       → OfKey instance (λ texts w root. PlainlyWithUnits w root instance (λ v units. HaveUnits shape words is_whole matching p instance texts units))
 
-  -- with questions of any depth and under every outcome of the matches, each error of the key's node points at a keyword of the schema that its evaluation path leads to, and at a value inside the instance
+  -- with questions of any depth and under every outcome of the matches, each error of the key's
+  -- node points at a keyword of the schema that its evaluation path leads to, and at a value inside
+  -- the instance
   abbrev pub PointsFromKey : {C M : Type 0} → (C → K) → (M → Matcher) → Program C M → Type 0
   PointsFromKey shape matching p = (instance : Data)
       → OfKey instance (λ texts w root. (n : ℕ) → EachLeads w root instance (guarded_sense (words texts) (matching p.matcher) (numbered shape p.nodes) (subject_in instance) n p.root))
@@ -64,7 +66,9 @@ module _ {S K R : Type 0} (resolver : Resolver S) (table : Table K) (matcher : M
   HasSchemasUnits shape is_whole matching p = (instance : Data)
       → OfSchema instance (λ texts w root. PlainlyWithUnits w root instance (λ v units. HaveUnits shape words is_whole matching p instance texts units))
 
-  -- with questions of any depth and under every outcome of the matches, each error of the root's node points at a keyword of the schema that its evaluation path leads to, and at a value inside the instance
+  -- with questions of any depth and under every outcome of the matches, each error of the root's
+  -- node points at a keyword of the schema that its evaluation path leads to, and at a value inside
+  -- the instance
   abbrev pub PointsIntoSchema : {C M : Type 0} → (C → K) → (M → Matcher) → Program C M → Type 0
   PointsIntoSchema shape matching p = (instance : Data)
       → OfSchema instance (λ texts w root. (n : ℕ) → EachLeads w root instance (guarded_sense (words texts) (matching p.matcher) (numbered shape p.nodes) (subject_in instance) n p.root))

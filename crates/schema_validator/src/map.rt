@@ -45,6 +45,10 @@ impl<K: Validate, M: Drop> ValidatorMap<K, M> {
     }
 
     /// Inserts a validator at a pointer, and replaces the one that is there, if any.
+    ///
+    /// # Errors
+    ///
+    /// Out of memory, and then nothing has changed.
     pub(crate) fn insert(
         &mut self,
         pointer: String,

@@ -38,10 +38,10 @@ impl<K: Validate, M: Matcher> Validator<K, M> {
     /// is monotone and the runs are within the limit, returns `true` exactly if the greatest
     /// solution of the nodes accepts, even if chains of references return.
     ///
-    /// With a limit on steps (`with_work_limit`), returns `false` if the call needs one more. It
-    /// does not if the matcher says that it finishes every match, each keyword says that it is
-    /// monotone, and there is a solver for which that many pairs are enough (`solve_within`). A
-    /// `false` is then a verdict.
+    /// With a limit on steps (`with_work_limit`), returns `false` if the call needs one more. The
+    /// limit is enough if the matcher says that it finishes every match, each keyword says that it
+    /// is monotone, and there is a solver for which that many pairs are enough (`solve_within`).
+    /// Then a `false` is a verdict.
     ///
     /// # Errors
     ///
