@@ -16,8 +16,9 @@ use std::alloc::Global;
 
 /// Makes a resolver of one document by the narrow rule, in a default draft.
 ///
-/// The document is found under its root's identifier without a fragment, or under `json-schema:///`. The vocabularies are required in
-/// every draft, beside the draft's own.
+/// The document is found under its root's identifier without the fragment, or under
+/// `json-schema:///` if it has none. The vocabularies are required in every draft, beside the
+/// draft's own.
 ///
 /// # Errors
 ///

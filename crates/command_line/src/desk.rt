@@ -70,7 +70,9 @@ impl Desk {
         }
     }
 
-    /// Writes the text about an instance, if there is any, and returns its outcome.
+    /// Writes the text about an instance, and returns its outcome.
+    ///
+    /// An empty text is not written.
     pub fn write(&mut self, answer: (Outcome, String)) -> Outcome
         ensures outcome { result ≡ answer.0 }
         ensures stopped { IsSome self.old.page.fault → self.new ≡ self.old }

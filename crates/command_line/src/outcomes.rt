@@ -36,7 +36,7 @@ impl Outcome {
         }
     }
 
-    /// Returns the outcome of both taken together: the one with the greater status.
+    /// Returns the outcome of both together: the one with the greater status.
     pub fn and(self, other: Outcome) -> Outcome
         ensures greater { code_of result ≡ max (code_of self) (code_of other) }
     {

@@ -8,7 +8,7 @@ use std::fmt;
 
 /// The number of lines, and how many of them were refused or had no answer.
 ///
-/// The counts stop at the greatest number.
+/// Each count stops at the greatest number of 64 bits.
 #[derive(Clone, Copy, Debug, PartialEq, Eq)]
 pub struct Tally {
     pub lines: u64,

@@ -199,7 +199,7 @@ fn resources_in<'w>(
     resources
 }
 
-/// Returns the error for words that name no resource, with the command's usage.
+/// Returns the error for words that name no resource, with the usage.
 fn no_resource<'w>(
     alloc: Global,
     command: &mut Command<'w>,

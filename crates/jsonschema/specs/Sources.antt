@@ -26,8 +26,8 @@ values_of s = view s.schema ∷ map (λ d. view d.value) s.documents
 abbrev pub default_draft_of : SchemaSources → Draft
 default_draft_of s = unwrap_or s.draft draft_2020_12
 
--- the option for the root's draft: if the schema names no draft, the draft of the sources takes its
--- place
+-- the option for the root's draft: the draft of the sources, if one is set and the schema names
+-- none, and otherwise the given option
 abbrev pub draft_option : SchemaSources → Option Draft → Option Draft
 draft_option s o = elim (get (codes "$schema") (view s.schema)) [ Some d ↦ o | None ↦ elim s.draft [ Some draft ↦ Some draft | None ↦ o ] ]
 

@@ -26,7 +26,9 @@ impl Validating<'_, '_> {
         Ok((outcome, text))
     }
 
-    /// Returns the first error of a line as text, which is empty if there is none.
+    /// Returns the first error of a line as text.
+    ///
+    /// The text is empty if there is no error.
     fn first_error(
         &self,
         alloc: Global,

@@ -56,7 +56,7 @@ dependencies_script name d = malformed name d
 
 -- ---- `items` and `additionalItems`
 
--- the number of items that come before those that `items` with one schema evaluates
+-- the number of items that `items` with one schema skips
 abbrev pub items_before : Draft → Members → ℕ
 items_before draft ms = if has_prefix draft then count_in (option_and_then as_array (get_member (codes "prefixItems") ms)) else 0
 

@@ -1,7 +1,7 @@
 -- `dependencies` relates a member either to a list of names or to a schema. It accepts an object
--- if, for each such member that the object has, the object also has the listed names, or the schema
--- accepts the object. An instance that is no object has no members. A want is a member and a name
--- that it requires. (Validation draft 7, 6.5.7; from 2019-09 on `dependentRequired` and
+-- if, for each such member that the object has, the object also has the listed members or the
+-- schema accepts the object. An instance that is no object has no members. A want is a member and a
+-- name that it requires. (Validation draft 7, 6.5.7; from 2019-09 on `dependentRequired` and
 -- `dependentSchemas` take its place)
 use Rattle.std.specs.Prelude.{All, List, true, ◌≡◌}
 use Rattle.theory_definitions.specs.Instance.{Subject, Text}

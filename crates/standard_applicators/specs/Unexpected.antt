@@ -1,5 +1,5 @@
--- `additionalItems` with the value `false`: a list has no items but those that have a schema, and
--- the error shows the others. (Core 2019-09, 9.3.1.2)
+-- With the value `false`, `additionalItems` accepts a list only if `items` has a schema for each of
+-- its items. The error shows the other items. (Core 2019-09, 9.3.1.2)
 use Rattle.std.specs.Prelude.{None, Option, Some, [], codes, if◌then◌else◌, nat_le, suc, zero, Bool, ℕ, ◌++◌, ◌-◌, ◌==◌}
 use Rattle.serde_json.specs.Data.{Items, item, no_items}
 use Rattle.serde_json.specs.Find.{as_array}

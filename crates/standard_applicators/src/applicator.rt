@@ -30,7 +30,7 @@ pub enum StandardApplicator {
     ListedItems(usize),
     /// `items` with one schema, or `additionalItems`.
     ///
-    /// The number is that of the items before those that it evaluates.
+    /// The number is that of the items that it skips.
     LaterItems(usize),
     /// `additionalItems` with the value `false`.
     NoLaterItems(NoLaterItems),

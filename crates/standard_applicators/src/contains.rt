@@ -1,4 +1,8 @@
 //! `contains`, with `minContains` and `maxContains` beside it.
+//!
+//! If `minContains` is above `maxContains`, the number of fitting items can be too small and too
+//! great at once. The error then says that it is too great: a run stops counting when it exceeds
+//! `maxContains`, so it does not know whether the list reaches `minContains`.
 ghost use Rattle.std.specs.Prelude.{string_bytes};
 ghost use Rattle.standard_applicators.specs.Containing.{fewer_than, how_many, more_than};
 ghost use Rattle.schema_traits.specs.Showing.{Shows};

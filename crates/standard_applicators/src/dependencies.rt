@@ -1,4 +1,7 @@
 //! `dependencies`: a member may require other members, or a schema.
+//!
+//! The keyword reports its own errors before those of its schemas. So if a first error is requested
+//! and a member is missing, no child is evaluated.
 ghost use Rattle.std.specs.Prelude.{◌≡◌, [], IfOk, if◌then◌else◌, map, string_bytes};
 ghost use Rattle.theory_definitions.specs.Instance.{Subject};
 ghost use Rattle.keyword_authoring.specs.Ways.{at_first};

@@ -23,7 +23,7 @@ fn has_limits(draft: Draft) -> bool
     }
 }
 
-/// Returns the limit that a value is.
+/// Returns the limit, if the value is one.
 fn limit_of(value: &Value) -> Option<usize>
     ensures limit { result ≡ limit_of (view value.now) }
 {

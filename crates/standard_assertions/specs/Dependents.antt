@@ -1,6 +1,7 @@
 -- The value of `dependentRequired` is an object whose members are lists of names. If an instance
--- has a member of that name, then it must have those in the list too; each one that it lacks is an
--- error. An instance that is no object is accepted. (Validation 2020-12, 6.5.4)
+-- has a member with the name of such a list, then it must also have the members that the list
+-- names; each one that it lacks is an error. An instance that is no object is accepted. (Validation
+-- 2020-12, 6.5.4)
 use Rattle.std.specs.Prelude.{List, None, Option, Some, String, [], if◌then◌else◌, map, string_bytes, ◌++◌, ◌∷◌, ◌≡◌}
 use Rattle.std.specs.declared.alloc.Global.{Global}
 use Rattle.serde_json.specs.Data.{Data, Items, Members, item, member, no_items, no_members}

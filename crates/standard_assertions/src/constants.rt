@@ -89,7 +89,7 @@ pub fn listed_text(
     Ok(text)
 }
 
-/// Appends the values, with ` or ` before the last one, and else with commas.
+/// Appends the values, separated by commas, and by ` or ` before the last one.
 fn push_values(alloc: Global, values: &[Value], text: &mut String) -> Result<(), OutOfMemory>
     ensures pushed { IfOk result (λ _. items_have_float (items_view values.now) ≡ false → Adds (values_text (items_view values.now))
         text.old text.new) }

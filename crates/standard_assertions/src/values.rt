@@ -94,7 +94,7 @@ pub fn multiple_made(value: &Value) -> Option<Assertion>
     }
 }
 
-/// Returns the limit that a value is, as the draft reads it.
+/// Returns the limit, if the draft reads the value as one.
 fn size_limit(draft: Draft, value: &Value) -> Option<u64>
     ensures limit { result ≡ size_limit (draft_of draft) (view value.now) }
 {

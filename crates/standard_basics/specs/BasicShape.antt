@@ -21,7 +21,7 @@ pub data BasicShape : Type 0 where
   applies : ApplicatorShape → BasicShape
   -- the number of schemas
   has_prefix_items : ℕ → BasicShape
-  -- the number of items that come before those that it evaluates
+  -- the number of items that it skips
   has_items : ℕ → BasicShape
   has_property_names : BasicShape
 

@@ -62,7 +62,7 @@ has_prefix draft_2020_12 = true
 has_prefix draft_unknown = true
 has_prefix _ = false
 
--- the number of items that come before those of `items`
+-- the number of items that `items` skips
 abbrev pub items_before : Draft → Members → ℕ
 items_before draft ms = if has_prefix draft then count_in (option_and_then as_array (get_member (codes "prefixItems") ms)) else 0
 

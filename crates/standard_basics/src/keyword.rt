@@ -1,4 +1,8 @@
 //! The basic keywords, and their implementation of `Validate`.
+//!
+//! All keywords are variants of one enum. As a join of two keyword types, each call made one choice
+//! more, and took 1.09 to 1.13 times the instructions. A run of `propertyNames` holds the names at
+//! which it evaluates its child; counting from the first member in each turn took quadratic time.
 ghost use Rattle.std.specs.Prelude.{◌≡◌, IfOk};
 ghost use Rattle.schema_reports.specs.InstanceViews.{subject_of};
 ghost use Rattle.schema_traits.specs.KeywordViews.{mode_of, turn_of};
@@ -52,7 +56,7 @@ pub enum BasicKeyword {
     AllOf(usize),
     /// The number of schemas.
     PrefixItems(usize),
-    /// The number of items that come before those that it evaluates.
+    /// The number of items that it skips.
     Items(usize),
     /// The number of schemas.
     AnyOf(usize),

@@ -49,7 +49,9 @@ fn tell_pattern<'i>(
     note(alloc, mode, "pattern", text, answer)
 }
 
-/// Matches the pattern against a text, and reports an error if that fails.
+/// Takes a turn of `pattern` at an instance with this text.
+///
+/// The first turn asks for the match. The next one reports an error unless the pattern matches.
 #[inline(always)]
 fn turn_of_text<'s, 'i>(
     alloc: Global,

@@ -112,7 +112,9 @@ impl MetaDocuments {
         })
     }
 
-    /// Returns the meta-schemas of the drafts, oldest first, then of the vocabularies.
+    /// Returns the meta-schemas.
+    ///
+    /// Those of the drafts come first, the oldest first, and then those of the vocabularies.
     pub fn documents(&self) -> &[MetaDocument]
         ensures documents { map given_of result.now ≡ self.now.documents }
     {
@@ -126,7 +128,9 @@ impl MetaDocuments {
         &self.patterns
     }
 
-    /// Returns the meta-schema of a draft. An unknown draft has that of 2020-12.
+    /// Returns the meta-schema of a draft.
+    ///
+    /// An unknown draft has that of 2020-12.
     pub fn of_draft(&self, draft: Draft) -> &MetaDocument
         ensures document { slice_get self.now.documents (place_of (draft_of draft)) ≡ Some (given_of result.now) }
         ensures uri { result.now.uri.now ≡ uri_of (draft_of draft) }

@@ -43,7 +43,7 @@ fn others<'d>(
     Ok(others)
 }
 
-/// Makes the resolver of the meta-schemas, with a draft's meta-schema as the root.
+/// Makes the resolver of the meta-schemas, with a draft's as the root.
 fn resolver_of<'p>(
     alloc: Global,
     documents: &'p MetaDocuments,

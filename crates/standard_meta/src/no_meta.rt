@@ -5,7 +5,9 @@ use schema_traits::MetaValidators;
 use serde_json::Value;
 use std::alloc::Global;
 
-/// Accepts every schema, for the build of the meta-schemas, which asks for no check.
+/// Accepts every schema.
+///
+/// The meta-schemas are built with it, since their build requests no check.
 #[derive(Drop)]
 pub(crate) struct NoMeta {}
 

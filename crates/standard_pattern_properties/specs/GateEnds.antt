@@ -31,8 +31,8 @@ after_one i xs x rest h = ap (λ n. drop n xs) (add-one i) ∙ after_suc i xs x 
 
 -- ---- the final answer of a run
 
--- the final answer, if these are the open questions that are left, and `left` are the names that
--- the error shows before theirs
+-- the final answer, given the open questions that are left, and the names (`left`) that the error
+-- shows before those of these questions
 abbrev pub finished : Bool → Mode → (Question → Reply) → Form → Answer → List Text → List Gated → Answer
 finished texts m reply passes a left gs = led reply a (map question_of gs)
 finished texts m reply (tells called text) a left gs = noted m called a (map (spoken texts) (told text (left ++ map name_of gs)))

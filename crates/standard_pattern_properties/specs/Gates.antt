@@ -30,8 +30,8 @@ pub record Gated : Type 0 where
   pub question : Question
   pub name : Text
 
--- whether a keyword asks the open questions and passes on their answers, or reports an error with
--- this name if a question is open, whose text depends on the members' names
+-- what a keyword does with its open questions: it asks them and passes on their answers; or, if
+-- there are any, it reports an error with this name, whose text depends on the members' names
 pub data Form : Type 0 where
   passes : Form
   tells : Text → (List Text → Text) → Form

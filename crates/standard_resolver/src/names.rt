@@ -1,4 +1,8 @@
 //! The names in a resource.
+//!
+//! A name is compared with the fragment of a reference as both are written; only pointers are
+//! decoded. An empty name is never looked up, since an empty fragment leads to the root. If the
+//! `$anchor` and the `$dynamicAnchor` of a schema are the same text, the `$anchor` comes first.
 ghost use Rattle.std.specs.Prelude.{◌≡◌, IfOk, map, option_and_then, option_map, slice_get};
 ghost use Rattle.std.specs.HashMap.{get_by_text};
 ghost use Rattle.standard_subschemas.specs.DocumentKeys.{IsNumbered};

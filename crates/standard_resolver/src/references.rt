@@ -1,4 +1,7 @@
 //! The targets of references.
+//!
+//! A dynamic reference enters the resource that it leads into, which need not be the one that its
+//! URI names.
 ghost use Rattle.std.specs.Prelude.{[], option_and_then, option_map, slice_get};
 ghost use Rattle.serde_json.specs.View.{view};
 ghost use Rattle.theory_definitions.specs.Parts.{Parts};
@@ -45,7 +48,7 @@ fn nothing_there(alloc: Global, reference: &str) -> LookupError
     refusal(alloc, text, reference)
 }
 
-/// Makes the error for a reference to a resource that is not among the documents.
+/// Makes the error for a reference to a resource that is not found.
 fn not_at_hand(alloc: Global, rule: Rule, reference: &str, uri: &str) -> LookupError
     ensures refused { RefusesWith (not_at_hand rule reference.now uri.now) result }
 {
@@ -261,7 +264,7 @@ fn target_by_fragment(
     )
 }
 
-/// Returns the target of a reference: its place, the state there, and its draft.
+/// Returns the target of a reference: its place, the state there, its draft.
 ///
 /// # Errors
 ///

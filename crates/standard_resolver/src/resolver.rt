@@ -132,7 +132,9 @@ impl<'a> DocumentResolver<'a> {
         })
     }
 
-    /// Replaces the vocabularies that are in force in each draft. Allocates nothing.
+    /// Replaces the vocabularies that are in force in each draft.
+    ///
+    /// Allocates nothing.
     pub fn with_draft_vocabularies(self, vocabularies: DraftVocabularies) -> DocumentResolver<'a>
         ensures vocabularies { result ≡ record self.entry { vocabularies = vocabularies } }
     {

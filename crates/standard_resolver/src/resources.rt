@@ -1,4 +1,9 @@
 //! The resources in documents.
+//!
+//! By the standard's rule a document is two resources with one root if the identifier of its root
+//! differs from the URI that the document is supplied under; both have the identifier's base. If
+//! several resources have one URI, the first is found. Entering a later one is refused, because the
+//! state holds only a URI as its base, which would mean the first.
 ghost use Rattle.std.specs.Prelude.{◌≡◌, ◌∷◌, [], IfOk, flat_map, map, option_map, slice_get, string_bytes};
 ghost use Rattle.serde_json.specs.View.{view};
 ghost use Rattle.schema_drafts.specs.KeywordViews.{draft_of};
@@ -56,7 +61,7 @@ impl Resource {
     }
 }
 
-/// The resources in documents, by their numbers, and the rule for finding them.
+/// The resources in documents, by number, and the rule for finding them.
 ///
 /// Contracts see the rule and the list.
 #[derive(Drop)]
@@ -156,7 +161,7 @@ fn resource_of(
     })
 }
 
-/// The resources that were gathered so far, and the map from URIs to their numbers.
+/// The resources gathered so far, and the map from URIs to their numbers.
 #[derive(Drop)]
 pub struct Gathered {
     pub resources: Vec<Resource>,

@@ -10,7 +10,9 @@ pub fn worked_rows()
     ensures rows { RowsHold }
 {}
 
-/// A law: the worked rows of the standard's rule hold. The function does nothing.
+/// A law: the worked rows of the standard's rule hold.
+///
+/// The function does nothing.
 pub fn standard_rows()
     ensures rows { StandardRowsHold }
 {}

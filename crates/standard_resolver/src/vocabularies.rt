@@ -7,7 +7,7 @@ ghost use Rattle.schema_traits.specs.Showing.{Yields};
 use schema_drafts::{Draft, Vocabulary, VocabularySet};
 use schema_reports::OutOfMemory;
 
-/// The vocabularies of the drafts before 2019-09, of 2019-09, and of later drafts.
+/// The vocabularies of drafts before 2019-09, of 2019-09, and of later drafts.
 #[derive(Drop)]
 pub struct DraftVocabularies {
     pub early: VocabularySet,

@@ -1,4 +1,7 @@
 //! The walk through a document, from schemas to their subschemas.
+//!
+//! The walk carries the base, as a state does. So a nested identifier is resolved in the same way
+//! when its resource is found and when it is entered.
 ghost use Rattle.std.specs.Prelude.{◌≡◌, ◌<◌, ℕ, IfOk, map};
 ghost use Rattle.std.specs.List.{filter};
 ghost use Rattle.serde_json.specs.Data.{depth};
@@ -20,7 +23,7 @@ use standard_subschemas::{
 };
 use std::alloc::Global;
 
-/// A schema that the walk visits, with its path, the base around it, and its draft.
+/// A visited schema, with its path, the base around it, and its draft.
 #[derive(Drop)]
 pub struct Visited<'a> {
     pub path: SchemaPath,
@@ -51,7 +54,9 @@ fn speaks(rule: Rule, everywhere: bool, draft: Draft, schema: &Value) -> bool
     }
 }
 
-/// The aim of a walk: identifiers if it goes into all schemas, and names otherwise.
+/// The aim of a walk: identifiers or names.
+///
+/// It is identifiers if the walk goes into all schemas, and names otherwise.
 #[derive(Clone, Copy)]
 struct Aim {
     rule: Rule,

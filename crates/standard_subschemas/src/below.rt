@@ -265,9 +265,10 @@ fn keyword_again(last: &Option<RcStr>, keyword: &str) -> Result<Option<RcStr>, O
     }
 }
 
-/// Returns a keyword as shared text: a clone of `last` if it is the same keyword.
+/// Returns a keyword as shared text.
 ///
-/// So the subschemas under one keyword share its text. The keyword becomes the last one.
+/// It is a clone of `last` if that is the same keyword, so that the subschemas under one keyword
+/// share its text. The keyword becomes the last one.
 fn keyword_of(alloc: Global, last: &mut Option<RcStr>, keyword: &str) -> Result<RcStr, OutOfMemory>
     ensures keyword { Shows rc_str_bytes result keyword.now }
 {
@@ -334,7 +335,9 @@ fn placed_found<'v>(
     Ok(placed)
 }
 
-/// Returns the subschemas of the schema at a place, in order, with their places.
+/// Returns the subschemas of the schema at a place, each with its own place.
+///
+/// They are in order.
 ///
 /// # Errors
 ///

@@ -21,7 +21,9 @@ fn names_schemas(rule: Rule, name: &str) -> bool
     }
 }
 
-/// Tries the most common name first, which holds no subschemas.
+/// Returns whether subschemas may lie under this name by the standard's rule.
+///
+/// It compares the name with `type` first, the most common one, which holds no subschemas.
 fn names_schemas_of_the_standard(name: &str) -> bool
     ensures names { result ≡ names_schemas Standard name.now }
 {

@@ -15,7 +15,7 @@ fn joined(alloc: Global, first: &str, second: &str) -> Result<String, OutOfMemor
     Ok(text)
 }
 
-/// Makes the error of a refused lookup, from a text and the name of its subject.
+/// Makes the error of a refused lookup, from a text and its subject's name.
 pub fn refusal(alloc: Global, text: &str, about: &str) -> LookupError
     ensures refused { RefusesWith (text.now ++ about.now) result }
 {

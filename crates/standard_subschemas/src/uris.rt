@@ -16,7 +16,9 @@ use serde_json::Value;
 use std::alloc::Global;
 use uri_references::resolve;
 
-/// Returns whether the URI has a scheme: a `:` comes before any `/`, `?` or `#`.
+/// Returns whether the URI has a scheme.
+///
+/// It has one if a `:` comes before any `/`, `?` or `#`.
 fn is_absolute(uri: &str) -> bool
     ensures absolute { result ≡ is_absolute uri.now }
 {
@@ -31,7 +33,7 @@ fn is_absolute(uri: &str) -> bool
     false
 }
 
-/// Returns the URI that an identifier, read against a base, means for its schema.
+/// Returns the URI of the schema with an identifier, read against a base.
 ///
 /// # Errors
 ///
@@ -135,7 +137,9 @@ fn resolve_narrowly(alloc: Global, base: &str, reference: &str) -> Result<String
     Err(refusal(alloc, text, reference))
 }
 
-/// Resolves a reference against a base: by the standard's rule as in RFC 3986, 5.2.
+/// Resolves a reference against a base.
+///
+/// By the standard's rule it is resolved as in RFC 3986, section 5.2.
 ///
 /// # Errors
 ///

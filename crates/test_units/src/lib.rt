@@ -2,7 +2,10 @@
 //!
 //! They test the answers of a `Context` to a table's makers, the number of evaluation paths that
 //! are kept, the standard's keywords as they are published, numbers and equality of values, sizes
-//! in bytes, and public calls that nothing else makes. A row begins with the text that is wanted.
+//! in bytes, and public calls that nothing else makes. A row begins with the expected text.
+//!
+//! Tests have crates of their own because a crate with tests is proved twice. The rows of tests are
+//! JSON texts, so that a row costs the prover nothing.
 #![tactic(auto)]
 
 #[cfg(test)]

@@ -22,14 +22,14 @@ fn has_prefix(draft: Draft) -> bool
     }
 }
 
-/// Returns whether `items` has a list, in a draft in which a list makes no keyword.
+/// Returns whether `items` is a list that makes no keyword in this draft.
 pub fn is_older_list(draft: Draft, value: &Value) -> bool
     ensures older { result ≡ is_older_list (draft_of draft) (view value.now) }
 {
     !has_prefix(draft) && value.is_array()
 }
 
-/// Returns the number of items that come before those of `items`.
+/// Returns the number of items that `items` skips.
 ///
 /// This is the number of schemas of `prefixItems`, in the drafts that have it.
 pub fn items_before(draft: Draft, object: &Map<String, Value>) -> usize
