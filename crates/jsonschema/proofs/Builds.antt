@@ -11,13 +11,9 @@ use Rattle.regex_matcher.specs.RegexMatching.{Kept}
 use Rattle.schema_keys.specs.Checking.{MetaChecks}
 use Rattle.schema_keys.specs.declared.error.BuildError.{BuildError}
 use Rattle.schema_keys.specs.declared.error.BuildError.TheVariants.{OutOfMemory}
-use Rattle.schema_validator.specs.Called.{BuildRefused, HasPlainUnits, IsCompiledFrom, MeansPlainly, PointsPlainly, SchemaBuilds, UnitsPointPlainly}
-use Rattle.schema_validator.specs.Checked.{PassesCheck}
-use Rattle.schema_validator.specs.FirstCauses.{FirstOfBuild}
-use Rattle.schema_validator.specs.Greatest.{AcceptsAsSchema}
+use Rattle.schema_validator.specs.BuildResults as results
 use Rattle.schema_validator.specs.Handed.{Handed, Options, handed}
 use Rattle.schema_compiled.specs.Program.{Program}
-use Rattle.schema_compiled.specs.Solved.{HasSolver}
 use Rattle.standard_resolver.specs.ResolverDocuments.{HeldDocuments}
 use Rattle.standard_keywords.specs.declared.patterns.UnreadablePatterns.TheVariants as unreadable
 use Rattle.standard_keywords.specs.declared.table.StandardTable.{StandardTable}
@@ -38,35 +34,16 @@ module _ {State S C Maker Run K : Type 0} (resolvers : ResolverMembers HeldDocum
 
   module _ (r : HeldDocuments) (patterns : List Text) (refuses : MetaChecks) (options : Options) (schema : Data) (table : StandardTable) (m : Kept) where
     pub built_by : (x : Result (Program C Kept) BuildError) → table.unreadable ≡ unreadable.Refused → m ≡ careful_matcher patterns
-        → IfOk x (λ p. MeansPlainly (parts r table m) options schema p) → IfOk x (λ p. HasPlainUnits (parts r table m) options schema p)
-        → IfOk x (λ p. PointsPlainly (parts r table m) options schema p) → IfOk x (λ p. UnitsPointPlainly (parts r table m) options schema p)
-        → IfOk x (λ p. AcceptsAsSchema (parts r table m) options schema p) → IfOk x (λ p. IsCompiledFrom (parts r table m) options schema options.nested p)
-        → IfOk x (λ p. HasSolver p) → IfOk x (λ _. SchemaBuilds (parts r table m) options schema)
-        → IfOk x (λ _. PassesCheck (resolvers.resolving r) refuses options schema)
+        → IfOk x (λ p. results.IsBuilt (parts r table m) refuses options schema options.nested p)
         → IfOk x (λ p. IsBuilt resolvers tables keywords r patterns refuses options schema p)
-    built_by (Ok p) made kept means units points units_point greatest program solver builds passed =
-        let same = same_parts r patterns table m made kept in record {
-          means = subst (λ h. MeansPlainly h options schema p) same means;
-          units = subst (λ h. HasPlainUnits h options schema p) same units;
-          points = subst (λ h. PointsPlainly h options schema p) same points;
-          units_point = subst (λ h. UnitsPointPlainly h options schema p) same units_point;
-          greatest = subst (λ h. AcceptsAsSchema h options schema p) same greatest;
-          program = subst (λ h. IsCompiledFrom h options schema options.nested p) same program;
-          solver = solver;
-          builds = subst (λ h. SchemaBuilds h options schema) same builds;
-          passed = passed;
-        }
-    built_by (Err e) made kept means units points units_point greatest program solver builds passed = tt
+    built_by (Ok p) made kept said = record { built = subst (λ h. results.IsBuilt h refuses options schema options.nested p) (same_parts r patterns table m made kept) said }
+    built_by (Err e) made kept said = tt
 
     pub refused_by : (x : Result (Program C Kept) BuildError) → table.unreadable ≡ unreadable.Refused → m ≡ careful_matcher patterns
-        → IfErr x (λ e. BuildRefused (parts r table m) refuses options schema e) → IfErr x (λ e. FirstOfBuild (parts r table m) refuses options schema e)
+        → IfErr x (λ e. results.IsRefused (parts r table m) refuses options schema e)
         → IfErr x (λ e. (e ≡ OutOfMemory) ⊎ IsRefused resolvers tables keywords r patterns refuses options schema e)
-    refused_by (Ok p) made kept refused first = tt
-    refused_by (Err e) made kept refused first =
-        let same = same_parts r patterns table m made kept in inr (record {
-          refused = subst (λ h. BuildRefused h refuses options schema e) same refused;
-          first = subst (λ h. FirstOfBuild h refuses options schema e) same first;
-        })
+    refused_by (Ok p) made kept said = tt
+    refused_by (Err e) made kept said = inr (record { refused = subst (λ h. results.IsRefused h refuses options schema e) (same_parts r patterns table m made kept) said })
 
   module _ (refuses : MetaChecks) (given : Options) (s : SchemaSources) (patterns : List Text) (r : HeldDocuments) (options : Options) (schema : Data)
       (is : IsResolverOf s r) (by : options ≡ options_by s given) (same : schema ≡ view s.schema) where

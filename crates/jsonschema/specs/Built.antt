@@ -12,13 +12,9 @@ use Rattle.schema_traits.specs.declared.table.KeywordTable.{Ghosts as TableMembe
 use Rattle.regex_matcher.specs.RegexMatching.{Kept, careful}
 use Rattle.schema_keys.specs.Checking.{MetaChecks}
 use Rattle.schema_keys.specs.declared.error.BuildError.{BuildError}
-use Rattle.schema_validator.specs.Called.{BuildRefused, HasPlainUnits, IsCompiledFrom, MeansPlainly, PointsPlainly, SchemaBuilds, UnitsPointPlainly}
-use Rattle.schema_validator.specs.Checked.{PassesCheck}
-use Rattle.schema_validator.specs.FirstCauses.{FirstOfBuild}
-use Rattle.schema_validator.specs.Greatest.{AcceptsAsSchema}
+use Rattle.schema_validator.specs.BuildResults as results
 use Rattle.schema_validator.specs.Handed.{Handed, Options}
 use Rattle.schema_compiled.specs.Program.{Program}
-use Rattle.schema_compiled.specs.Solved.{HasSolver}
 use Rattle.standard_resolver.specs.ResolverDocuments.{HeldDocuments}
 use Rattle.standard_keywords.specs.declared.table.StandardTable.{StandardTable}
 use Rattle.standard_meta.specs.DraftMeanings.{handed_by}
@@ -37,20 +33,11 @@ module _ {State S C Maker Run K : Type 0} (resolvers : ResolverMembers HeldDocum
   module _ (r : HeldDocuments) (patterns : List Text) (refuses : MetaChecks) (options : Options) (schema : Data) where
     -- the program is that of a validator built from a schema that the resolver holds
     pub record IsBuilt (p : Program C Kept) : Type 0 where
-      pub means : MeansPlainly (parts_by r patterns) options schema p
-      pub units : HasPlainUnits (parts_by r patterns) options schema p
-      pub points : PointsPlainly (parts_by r patterns) options schema p
-      pub units_point : UnitsPointPlainly (parts_by r patterns) options schema p
-      pub greatest : AcceptsAsSchema (parts_by r patterns) options schema p
-      pub program : IsCompiledFrom (parts_by r patterns) options schema options.nested p
-      pub solver : HasSolver p
-      pub builds : SchemaBuilds (parts_by r patterns) options schema
-      pub passed : PassesCheck (resolvers.resolving r) refuses options schema
+      pub built : results.IsBuilt (parts_by r patterns) refuses options schema options.nested p
 
     -- the error names a cause that holds, and the first one if there are several
     pub record IsRefused (e : BuildError) : Type 0 where
-      pub refused : BuildRefused (parts_by r patterns) refuses options schema e
-      pub first : FirstOfBuild (parts_by r patterns) refuses options schema e
+      pub refused : results.IsRefused (parts_by r patterns) refuses options schema e
 
   module _ (refuses : MetaChecks) (options : Options) (s : SchemaSources) (patterns : List Text) where
     -- the validator is built from the schema of the sources, by a resolver that holds their

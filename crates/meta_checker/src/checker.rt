@@ -64,8 +64,7 @@ impl<K: Validate, M: Matcher> Checker<K, M> {
         ensures is { IfSome result (λ c. c ≡ validator) }
     {
         let nodes = validator.nodes();
-        // (the call proves that unguarded edges decrease in rank)
-        let _ranked = nodes.len();
+        nodes.assert_ordered();
         if !show_no_fraction(fractions, nodes) {
             return None;
         }

@@ -166,13 +166,12 @@ impl<K: Validate, M: Matcher> CompiledSchema<K, M> {
         &self.nodes
     }
 
-    /// Returns how many nodes there are, the root's among them. Edges that nothing guards fall in rank.
-    pub fn node_count(&self) -> usize
-        ensures count { result ≡ length self.now.nodes }
+    /// States that the root is a node, and that unguarded edges fall in rank. Does nothing when it runs.
+    pub fn assert_ranked(&self)
         ensures inside { self.now.root < length self.now.nodes }
         ensures ranked { Ranked (numbered K.shape self.now.nodes) (length self.now.nodes) }
     {
-        self.nodes.len()
+        self.nodes.assert_ordered();
     }
 
     // Returns the reply of the root's node, under these assumptions about unfinished matches.

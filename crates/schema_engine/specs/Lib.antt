@@ -1,4 +1,5 @@
 pub mod Nesting
 pub mod FreeCalls
 pub mod GreatestCalls
-pub mod OneCall
+pub mod CallResults
+pub mod AnyParts

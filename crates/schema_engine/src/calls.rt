@@ -1,15 +1,10 @@
 //! Validating one instance by one schema, with the default options, in one call.
-ghost use Rattle.std.specs.Prelude.{IfOk, IfErr, IfSome, All, OnOk};
+ghost use Rattle.std.specs.Prelude.{IfErr, IfOk};
 ghost use Rattle.serde_json.specs.View.{view};
-ghost use Rattle.schema_reports.specs.ReportViews.{BorrowsItsPlace};
 ghost use Rattle.schema_compiled.specs.Answers.{refusal_of};
-ghost use Rattle.schema_validator.specs.Called.{DecidesGuardedly, DecidesPlainly, BuildRefused};
-ghost use Rattle.schema_validator.specs.Called.{EvaluatesGuardedly, EvaluatesPlainly, UnitsGuardedly, UnitsPlainly};
-ghost use Rattle.schema_validator.specs.Called.{ErrorsPlainly, ErrorsGuardedly, EachLeads, FirstPlainly, FirstGuardedly, FirstLeads};
-ghost use Rattle.schema_validator.specs.Called.{UnitsLead};
-ghost use Rattle.schema_validator.specs.FirstCauses.{FirstOfBuild};
-ghost use Rattle.schema_engine.specs.GreatestCalls.{DecidesGreatest, ErrorsGreatest, EvaluatesGreatest, FirstGreatest};
-ghost use Rattle.schema_engine.specs.OneCall.{Builds, Passes, Refuses, Says};
+ghost use Rattle.schema_validator.specs.BuildResults.{IsRefused};
+ghost use Rattle.schema_validator.specs.Handed.{default_options, handed};
+ghost use Rattle.schema_engine.specs.CallResults.{AreErrors, IsEvaluation, IsFirstError, IsVerdict};
 
 use schema_keys::BuildError;
 use schema_output::Evaluation;
@@ -38,18 +33,10 @@ pub fn is_valid<S: Resolver, T: KeywordTable<K>, K: Validate, M: Matcher, V: Met
     matcher: &M,
     metas: &V,
 ) -> Result<bool, BuildError>
-    ensures answer { IfOk result (Says S.Resolver T.KeywordTable K.Validate M.Matcher.own resolver.now table.now matcher.now
-        schema.now instance.now DecidesPlainly) }
-    ensures guarded { IfOk result (Says S.Resolver T.KeywordTable K.Validate M.Matcher.own resolver.now table.now matcher.now
-        schema.now instance.now DecidesGuardedly) }
-    ensures greatest { IfOk result (Says S.Resolver T.KeywordTable K.Validate M.Matcher.own resolver.now table.now matcher.now
-        schema.now instance.now DecidesGreatest) }
-    ensures built { OnOk result (Builds S.Resolver T.KeywordTable K.Validate M.Matcher.own resolver.now table.now matcher.now schema.now) }
-    ensures passed { OnOk result (Passes (S.resolving resolver.now) (V.checked metas.now) schema.now) }
-    ensures refused { IfErr result (Refuses S.Resolver T.KeywordTable K.Validate M.Matcher.own resolver.now table.now matcher.now
-        (V.checked metas.now) schema.now BuildRefused) }
-    ensures first { IfErr result (Refuses S.Resolver T.KeywordTable K.Validate M.Matcher.own resolver.now table.now matcher.now
-        (V.checked metas.now) schema.now FirstOfBuild) }
+    ensures answer { IfOk result (IsVerdict (handed S.Resolver T.KeywordTable K.Validate M.Matcher.own
+        resolver.now table.now matcher.now) (V.checked metas.now) default_options (view schema.now) (view instance.now)) }
+    ensures refused { IfErr result (IsRefused (handed S.Resolver T.KeywordTable K.Validate M.Matcher.own
+        resolver.now table.now matcher.now) (V.checked metas.now) default_options (view schema.now)) }
 {
     let built = Validator::<K, M>::new(alloc, schema, table, resolver, matcher, metas)?;
     Ok(built.is_valid(alloc, instance)?)
@@ -71,21 +58,10 @@ pub fn validate<'i, S: Resolver, T: KeywordTable<K>, K: Validate, M: Matcher, V:
     matcher: &M,
     metas: &V,
 ) -> Result<Result<(), ValidationError<'i>>, BuildError>
-    ensures answer { IfOk result (λ r. Says S.Resolver T.KeywordTable K.Validate M.Matcher.own resolver.now table.now matcher.now
-        schema.now instance.now FirstPlainly (refusal_of r)) }
-    ensures guarded { IfOk result (λ r. Says S.Resolver T.KeywordTable K.Validate M.Matcher.own resolver.now table.now matcher.now
-        schema.now instance.now FirstGuardedly (refusal_of r)) }
-    ensures greatest { IfOk result (λ r. Says S.Resolver T.KeywordTable K.Validate M.Matcher.own resolver.now table.now matcher.now
-        schema.now instance.now FirstGreatest (refusal_of r)) }
-    ensures leads { IfOk result (λ r. Says S.Resolver T.KeywordTable K.Validate M.Matcher.own resolver.now table.now matcher.now
-        schema.now instance.now FirstLeads (refusal_of r)) }
-    ensures borrows { IfOk result (λ r. IfSome (refusal_of r) (BorrowsItsPlace (view instance.now))) }
-    ensures built { OnOk result (Builds S.Resolver T.KeywordTable K.Validate M.Matcher.own resolver.now table.now matcher.now schema.now) }
-    ensures passed { OnOk result (Passes (S.resolving resolver.now) (V.checked metas.now) schema.now) }
-    ensures refused { IfErr result (Refuses S.Resolver T.KeywordTable K.Validate M.Matcher.own resolver.now table.now matcher.now
-        (V.checked metas.now) schema.now BuildRefused) }
-    ensures first { IfErr result (Refuses S.Resolver T.KeywordTable K.Validate M.Matcher.own resolver.now table.now matcher.now
-        (V.checked metas.now) schema.now FirstOfBuild) }
+    ensures answer { IfOk result (λ r. IsFirstError (handed S.Resolver T.KeywordTable K.Validate M.Matcher.own
+        resolver.now table.now matcher.now) (V.checked metas.now) default_options (view schema.now) (view instance.now) (refusal_of r)) }
+    ensures refused { IfErr result (IsRefused (handed S.Resolver T.KeywordTable K.Validate M.Matcher.own
+        resolver.now table.now matcher.now) (V.checked metas.now) default_options (view schema.now)) }
 {
     let validator = Validator::<K, M>::new(alloc, schema, table, resolver, matcher, metas)?;
     let answer = validator.validate(alloc, instance);
@@ -109,21 +85,10 @@ pub fn iter_errors<'i, S: Resolver, T: KeywordTable<K>, K: Validate, M: Matcher,
     matcher: &M,
     metas: &V,
 ) -> Result<ErrorIterator<'i>, BuildError>
-    ensures answer { IfOk result (Says S.Resolver T.KeywordTable K.Validate M.Matcher.own resolver.now table.now matcher.now
-        schema.now instance.now ErrorsPlainly) }
-    ensures guarded { IfOk result (Says S.Resolver T.KeywordTable K.Validate M.Matcher.own resolver.now table.now matcher.now
-        schema.now instance.now ErrorsGuardedly) }
-    ensures greatest { IfOk result (Says S.Resolver T.KeywordTable K.Validate M.Matcher.own resolver.now table.now matcher.now
-        schema.now instance.now ErrorsGreatest) }
-    ensures leads { IfOk result (Says S.Resolver T.KeywordTable K.Validate M.Matcher.own resolver.now table.now matcher.now
-        schema.now instance.now EachLeads) }
-    ensures borrows { IfOk result (λ es. All (BorrowsItsPlace (view instance.now)) es) }
-    ensures built { OnOk result (Builds S.Resolver T.KeywordTable K.Validate M.Matcher.own resolver.now table.now matcher.now schema.now) }
-    ensures passed { OnOk result (Passes (S.resolving resolver.now) (V.checked metas.now) schema.now) }
-    ensures refused { IfErr result (Refuses S.Resolver T.KeywordTable K.Validate M.Matcher.own resolver.now table.now matcher.now
-        (V.checked metas.now) schema.now BuildRefused) }
-    ensures first { IfErr result (Refuses S.Resolver T.KeywordTable K.Validate M.Matcher.own resolver.now table.now matcher.now
-        (V.checked metas.now) schema.now FirstOfBuild) }
+    ensures answer { IfOk result (AreErrors (handed S.Resolver T.KeywordTable K.Validate M.Matcher.own
+        resolver.now table.now matcher.now) (V.checked metas.now) default_options (view schema.now) (view instance.now)) }
+    ensures refused { IfErr result (IsRefused (handed S.Resolver T.KeywordTable K.Validate M.Matcher.own
+        resolver.now table.now matcher.now) (V.checked metas.now) default_options (view schema.now)) }
 {
     let validator = Validator::<K, M>::new(alloc, schema, table, resolver, matcher, metas)?;
     let answer = validator.iter_errors(alloc, instance);
@@ -151,24 +116,10 @@ pub fn evaluate<S: Resolver, T: KeywordTable<K>, K: Validate, M: Matcher, V: Met
     matcher: &M,
     metas: &V,
 ) -> Result<Evaluation, BuildError>
-    ensures answer { IfOk result (Says S.Resolver T.KeywordTable K.Validate M.Matcher.own resolver.now table.now matcher.now
-        schema.now instance.now EvaluatesPlainly) }
-    ensures guarded { IfOk result (Says S.Resolver T.KeywordTable K.Validate M.Matcher.own resolver.now table.now matcher.now
-        schema.now instance.now EvaluatesGuardedly) }
-    ensures greatest { IfOk result (Says S.Resolver T.KeywordTable K.Validate M.Matcher.own resolver.now table.now matcher.now
-        schema.now instance.now EvaluatesGreatest) }
-    ensures plain_units { IfOk result (Says S.Resolver T.KeywordTable K.Validate M.Matcher.own resolver.now table.now matcher.now
-        schema.now instance.now UnitsPlainly) }
-    ensures units { IfOk result (Says S.Resolver T.KeywordTable K.Validate M.Matcher.own resolver.now table.now matcher.now
-        schema.now instance.now UnitsGuardedly) }
-    ensures leads { IfOk result (Says S.Resolver T.KeywordTable K.Validate M.Matcher.own resolver.now table.now matcher.now
-        schema.now instance.now UnitsLead) }
-    ensures built { OnOk result (Builds S.Resolver T.KeywordTable K.Validate M.Matcher.own resolver.now table.now matcher.now schema.now) }
-    ensures passed { OnOk result (Passes (S.resolving resolver.now) (V.checked metas.now) schema.now) }
-    ensures refused { IfErr result (Refuses S.Resolver T.KeywordTable K.Validate M.Matcher.own resolver.now table.now matcher.now
-        (V.checked metas.now) schema.now BuildRefused) }
-    ensures first { IfErr result (Refuses S.Resolver T.KeywordTable K.Validate M.Matcher.own resolver.now table.now matcher.now
-        (V.checked metas.now) schema.now FirstOfBuild) }
+    ensures answer { IfOk result (IsEvaluation (handed S.Resolver T.KeywordTable K.Validate M.Matcher.own
+        resolver.now table.now matcher.now) (V.checked metas.now) default_options (view schema.now) (view instance.now)) }
+    ensures refused { IfErr result (IsRefused (handed S.Resolver T.KeywordTable K.Validate M.Matcher.own
+        resolver.now table.now matcher.now) (V.checked metas.now) default_options (view schema.now)) }
 {
     let validator = Validator::<K, M>::new(alloc, schema, table, resolver, matcher, metas)?;
     let answer = validator.evaluate(alloc, instance);

@@ -6,7 +6,7 @@ ghost use Rattle.schema_engine.specs.FreeCalls.{OneErrorList, OneEvaluation, One
 ghost use Rattle.schema_engine.specs.FreeCalls.{ErrorListAgain, EvaluationAgain, FirstErrorAgain, UnitsAgain, VerdictAgain};
 ghost use Rattle.schema_engine.specs.FreeCalls.{ValidatorCallsAgree};
 ghost use Rattle.schema_engine.specs.GreatestCalls.{FinishingAccepts, FinishingGreatest, GreatestAnswersAgree, GreatestVerdictsAgree};
-ghost use Rattle.schema_engine.specs.OneCall.{OfAnyHanded, OfAnyParts};
+ghost use Rattle.schema_engine.specs.AnyParts.{OfAnyHanded, OfAnyParts};
 ghost use Rattle.schema_engine.specs.Nesting.{AllErrorsAgree, BuildsAgree, FirstErrorsAgree, VerdictsAgree};
 ghost use Rattle.schema_engine.specs.Nesting.{EvaluationsOfBoth, UnitsOfBoth};
 ghost use Rattle.schema_engine.specs.Nesting.{LargerErrors, LargerEvaluations, LargerFirstErrors, LargerVerdicts};

@@ -137,7 +137,6 @@ pub use schema_traits::Validate;
 pub use schema_validator::ValidationOptions;
 pub use schema_validator::Validator;
 pub use schema_validator::ValidatorMap;
-pub use schema_validator::of_compiled;
 pub use schema_validator::root_key;
 pub use unfinished_matches::AssumedOutcomes;
 pub use unfinished_matches::LocatedMatch;

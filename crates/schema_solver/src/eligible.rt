@@ -5,6 +5,7 @@ ghost use Rattle.schema_solver_state.specs.Following.{IsFollowing};
 ghost use Rattle.schema_traits.specs.MatcherViews.{FinishesEach};
 ghost use Rattle.schema_node_table.specs.NodeTable.{numbered};
 ghost use Rattle.schema_solver.specs.Asked.{solver_over};
+ghost use Rattle.schema_solver.specs.Calls.{IfFound};
 ghost use Rattle.schema_solver.specs.Solving.{BeginsFew, EachSays, LimitWithinBound, SaysAsNodes};
 ghost use Rattle.schema_run_context.specs.Works.{Spends};
 ghost use Rattle.schema_traits.specs.Showing.{Shows, Yields};
@@ -134,19 +135,18 @@ impl Solver {
         requires known { node.0 < length nodes.now }
         requires finishes { finishes ≡ true → FinishesEach (M.matching matcher.now) }
         ensures exactly { EachSays K.says_monotone (numbered K.shape nodes.now) (length nodes.now)
-            → IfOk result (λ found. is_some found ≡ (is_some self.now && finishes)) }
+            → Shows is_some result (is_some self.now && finishes) }
         ensures only { IfOk result (λ found. is_some found ≡ true → (is_some self.now && finishes) ≡ true) }
-        ensures finishes { IfOk result (λ found. IfSome found (λ _. FinishesEach (M.matching matcher.now))) }
-        ensures says { IfOk result (λ found. IfSome found (λ v. SaysAsNodes
-            (solver_over K.words K.is_whole K.shape nodes.now [] (M.matching matcher.now)) (view instance.now) node.0 v.valid)) }
-        ensures rests { IfOk result (λ found. IfSome found (λ v. IfSome self.now (λ followed. IsFoundAt
-            (solver_over K.words K.is_whole K.shape nodes.now followed (M.matching matcher.now)) instance.now node.0 v))) }
-        ensures few { IfOk result (λ found. IfSome found (λ v. IfSome self.now (λ followed. BeginsFew
-            (solver_over K.words K.is_whole K.shape nodes.now followed (M.matching matcher.now)) instance.now v.context.begun))) }
+        ensures finishes { IfFound result (λ _. FinishesEach (M.matching matcher.now)) }
+        ensures says { IfFound result (λ v. SaysAsNodes
+            (solver_over K.words K.is_whole K.shape nodes.now [] (M.matching matcher.now)) (view instance.now) node.0 v.valid) }
+        ensures rests { IfFound result (λ v. IfSome self.now (λ followed. IsFoundAt
+            (solver_over K.words K.is_whole K.shape nodes.now followed (M.matching matcher.now)) instance.now node.0 v)) }
+        ensures few { IfFound result (λ v. IfSome self.now (λ followed. BeginsFew
+            (solver_over K.words K.is_whole K.shape nodes.now followed (M.matching matcher.now)) instance.now v.context.begun)) }
         ensures unasked { (is_some self.now && finishes) ≡ false → work.new ≡ work.old }
         ensures works { IfOk result (λ _. Spends work.old work.new) }
-        ensures counted { IfOk result (λ found. IfSome found (λ v. work.old.limited ≡ true
-            → v.context.begun + work.new.left ≡ work.old.left)) }
+        ensures counted { IfFound result (λ v. work.old.limited ≡ true → v.context.begun + work.new.left ≡ work.old.left) }
         ensures late { OnErr result (work.old.stopped ≡ false → work.new.stopped ≡ true
             → IfSome self.now (λ followed. LimitWithinBound
             (solver_over K.words K.is_whole K.shape nodes.now followed (M.matching matcher.now)) instance.now work.old.left)) }

@@ -47,9 +47,7 @@ pub fn solve_root<'i, K: Validate, M: Matcher>(
     requires fresh { context.old ≡ fresh instance.now }
     ensures { SolvesRoot K.Validate M.Matcher.own engine.now instance.now node.0 context.new result }
 {
-    // (the call says that the table is ordered)
-    let count = engine.nodes.len();
-    let _ordered = count;
+    engine.nodes.assert_ordered();
     let root = Place::root(engine.alloc);
     let place = EvaluationPlace::given(&root);
     let asked = Asked {

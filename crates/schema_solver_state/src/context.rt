@@ -94,6 +94,13 @@ fn for_now() -> Said
     Said::of(true, true)
 }
 
+// States that each number is the one of the place that has it. Does nothing when it runs.
+fn assert_own_numbers(places: &Places<'_>)
+    ensures own { OwnNumbers places.now }
+{
+    places.len();
+}
+
 // Remembers the verdict of a pair; there are `places` places. On `Err` nothing has changed.
 fn keep_verdict(
     alloc: Global,
@@ -182,8 +189,7 @@ impl<'i> SolverContext<'i> {
         let alloc = self.alloc;
         let places = &mut self.places;
         let numbered = places.numbered(alloc)?;
-        // (the call says that each number is that of the place that has it)
-        let _count = numbered.len();
+        assert_own_numbers(numbered);
         Ok(numbered)
     }
 

@@ -2,6 +2,7 @@ pub mod HeldPlaces
 pub mod DocumentMap
 pub mod MapAnswers
 pub mod FirstCauses
+pub mod RootRefusals
 pub mod OtherParts
 pub mod Built
 pub mod Compilations

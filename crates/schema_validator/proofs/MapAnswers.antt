@@ -11,10 +11,11 @@ use Rattle.schema_keys.specs.Checking.{AcceptsSchema, MetaChecks, RefusesSchema}
 use Rattle.schema_keys.specs.Compiling.{Each, no_keywords, no_matcher, no_table}
 use Rattle.schema_keys.specs.declared.error.BuildError.{BuildError}
 use Rattle.schema_keys.specs.DocumentSchemas.{IndicesFit, schemas_of}
+use Rattle.schema_validator.specs.BuildResults.{IsMapBuilt}
 use Rattle.schema_validator.specs.Entries.{HoldsPlaces, RefusesOneOf}
 use Rattle.schema_validator.specs.Handed.{Handed, Options, parts_of}
 use Rattle.schema_validator.specs.MapViews.{Entries}
-use Rattle.schema_validator.specs.Mapped.{EachAcceptsGreatest, EachHasPlainUnits, EachIsCompiledFrom, EachMeansPlainly, EachPointsPlainly, EachHasSolver, EachsUnitsPoint, HoldsCompiled, HoldsEach, MapIsBuilt, MapRefused, no_root, not_accepted, not_declared, past_limit}
+use Rattle.schema_validator.specs.Mapped.{MapIsBuilt, MapRefused, no_root, not_accepted, not_declared, past_limit}
 use Rattle.schema_compiled.specs.Program.{Program}
 use Rattle.schema_validator.specs.Roots.{IsRootKey, RefusesKey, root_parts}
 use Rattle.schema_validator.proofs.DocumentMap.{holds_compiled, holds_each, of_each}
@@ -23,18 +24,6 @@ use Rattle.schema_validator.proofs.RootKeys.{one_root_key, root_key_too}
 module _ {S K R C M : Type 0} (h : Handed S K R C M) (options : Options) (schema : Data) where
   abbrev w : Bool → Parts S K R
   w texts = parts_of h.resolver h.table h.matcher (h.words texts) options
-
-  -- all that is promised of a map
-  pub record IsMap (m : Entries (Program C M)) : Type 0 where
-    pub holds : HoldsCompiled h options schema m
-    pub means : EachMeansPlainly h options schema m
-    pub units : EachHasPlainUnits h options schema m
-    pub points : EachPointsPlainly h options schema m
-    pub units_point : EachsUnitsPoint h options schema m
-    pub greatest : EachAcceptsGreatest h options schema m
-    pub solver : EachHasSolver h options schema m
-    pub programs : EachIsCompiledFrom h options schema m
-    pub at_each : HoldsEach h options schema m
 
   module _ (root : Key S) (key : IsRootKey (root_parts h.resolver options) schema root) where
     is_root : (texts : Bool) → IsRootKey (w texts) schema root
@@ -63,9 +52,9 @@ module _ {S K R C M : Type 0} (h : Handed S K R C M) (options : Options) (schema
         accepted = accepted;
       }
 
-      pub is_map : IsInside h.resolver → (document : Option Data) → h.resolver.value root.target.place ≡ document → Each IndicesFit (schemas_of document) → (m : Entries (Program C M))
-          → HoldsPlaces h options schema root (schemas_of document) m → IsMap m
-      is_map law document stands fit m held =
+      pub is_map : (refuses : MetaChecks) → AcceptsSchema h.resolver refuses root.target.draft root.target.place → IsInside h.resolver → (document : Option Data) → h.resolver.value root.target.place ≡ document → Each IndicesFit (schemas_of document) → (m : Entries (Program C M))
+          → HoldsPlaces h options schema root (schemas_of document) m → IsMapBuilt h refuses options schema m
+      is_map refuses accepted law document stands fit m held =
           record {
             holds = holds_compiled h options schema root law is_root declared document stands m held;
             means = of_each h options schema root law is_root declared document stands m held _ (λ k p alone. alone.means);
@@ -76,4 +65,5 @@ module _ {S K R C M : Type 0} (h : Handed S K R C M) (options : Options) (schema
             solver = of_each h options schema root law is_root declared document stands m held _ (λ k p alone. alone.solver);
             programs = of_each h options schema root law is_root declared document stands m held _ (λ k p alone. (alone.within, alone.program));
             at_each = holds_each h options schema root law is_root declared document stands m held fit (λ k p alone. record { means = alone.means; units = alone.units; points = alone.points; units_point = alone.units_point; greatest = alone.greatest; solver = alone.solver; within = alone.within; program = alone.program });
+            builds = is_built refuses accepted;
           }

@@ -11,7 +11,7 @@ pub mod Mapped
 pub mod FirstCauses
 pub mod Entries
 pub mod Greatest
-pub mod Building
+pub mod BuildResults
 pub mod RootWords
 pub mod MapWords
 pub mod CallWords

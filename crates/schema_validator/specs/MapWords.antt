@@ -15,11 +15,10 @@ use Rattle.schema_keys.specs.KeyViews.{key_of}
 use Rattle.schema_keys.specs.declared.error.BuildError.{BuildError}
 use Rattle.schema_keys.specs.declared.key.SchemaKey.{SchemaKey}
 use Rattle.schema_compiled.specs.Program.{Program}
+use Rattle.schema_validator.specs.BuildResults.{IsMapRefused}
 use Rattle.schema_validator.specs.Entries.{FailsEntry, HoldsPlaces, IsCompiledAlone, IsEntry, IsLeftOut, IsMade, IsPut, RefusesAlone, RefusesEntry, RefusesOneOf}
-use Rattle.schema_validator.specs.FirstCauses.{FirstOfMap}
 use Rattle.schema_validator.specs.Handed.{Handed, handed}
 use Rattle.schema_validator.specs.MapViews.{Entries}
-use Rattle.schema_validator.specs.Mapped.{MapRefused}
 use Rattle.schema_validator.specs.RootWords.{IsKeyOfRoot}
 use Rattle.schema_validator.specs.declared.options.map.MapBuilding.{MapBuilding}
 
@@ -106,10 +105,6 @@ module _ {A T M P S C Maker Run K : Type 0} (r : ResolverMembers A P S) (t : Tab
   abbrev pub IsMadeMap : MetaChecks → Entries (Program C M) → Type 0
   IsMadeMap refuses es = IsMade parts b.options.now (view b.schema.now) (root_held r b) refuses es
 
-  -- there is no map, and why
+  -- there is no map, and the error names why
   abbrev pub RefusesMade : MetaChecks → BuildError → Type 0
-  RefusesMade refuses e = MapRefused parts b.options.now (view b.schema.now) refuses e
-
-  -- of several causes the first
-  abbrev pub NamesFirstMade : MetaChecks → BuildError → Type 0
-  NamesFirstMade refuses e = FirstOfMap parts refuses b.options.now (view b.schema.now) e
+  RefusesMade refuses e = IsMapRefused parts refuses b.options.now (view b.schema.now) e

@@ -1,11 +1,8 @@
 //! Building validators by the default options.
-ghost use Rattle.std.specs.Prelude.{◌≡◌, IfOk, IfErr, OnOk};
+ghost use Rattle.std.specs.Prelude.{◌≡◌, IfOk, IfErr};
 ghost use Rattle.serde_json.specs.View.{view};
-ghost use Rattle.schema_validator.specs.Building.{AcceptsAsBuilt, CanBeBuilt, HasUnitsAsBuilt, IsBuiltWith, MeansAsBuilt, NamesFirst};
-ghost use Rattle.schema_validator.specs.Building.{PointsAsBuilt, RefusesToBuild, UnitsPointAsBuilt};
-ghost use Rattle.schema_validator.specs.Checked.{PassesCheck};
-ghost use Rattle.schema_validator.specs.Handed.{default_nested, default_options};
-ghost use Rattle.schema_compiled.specs.Solved.{HasSolver};
+ghost use Rattle.schema_validator.specs.BuildResults.{IsBuilt, IsRefused};
+ghost use Rattle.schema_validator.specs.Handed.{default_nested, default_options, handed};
 
 use crate::options::ValidationOptions;
 use crate::validator::Validator;
@@ -43,26 +40,10 @@ impl<K: Validate, M: Matcher> Validator<K, M> {
         matcher: &M,
         metas: &V,
     ) -> Result<Validator<K, M>, BuildError>
-        ensures means { IfOk result (MeansAsBuilt S.Resolver T.KeywordTable K.Validate M.Matcher.own
-            resolver.now table.now matcher.now default_options schema.now) }
-        ensures units { IfOk result (HasUnitsAsBuilt S.Resolver T.KeywordTable K.Validate M.Matcher.own
-            resolver.now table.now matcher.now default_options schema.now) }
-        ensures points { IfOk result (PointsAsBuilt S.Resolver T.KeywordTable K.Validate M.Matcher.own
-            resolver.now table.now matcher.now default_options schema.now) }
-        ensures units_point { IfOk result (UnitsPointAsBuilt S.Resolver T.KeywordTable K.Validate M.Matcher.own
-            resolver.now table.now matcher.now default_options schema.now) }
-        ensures greatest { IfOk result (AcceptsAsBuilt S.Resolver T.KeywordTable K.Validate M.Matcher.own
-            resolver.now table.now matcher.now default_options schema.now) }
-        ensures program { IfOk result (λ v. IsBuiltWith S.Resolver T.KeywordTable K.Validate M.Matcher.own
-            resolver.now table.now matcher.now default_options schema.now default_nested v) }
-        ensures solver { IfOk result HasSolver }
-        ensures built { OnOk result (CanBeBuilt S.Resolver T.KeywordTable K.Validate M.Matcher.own
-            resolver.now table.now matcher.now default_options schema.now) }
-        ensures passed { OnOk result (PassesCheck (S.resolving resolver.now) (V.checked metas.now) default_options (view schema.now)) }
-        ensures refused { IfErr result (RefusesToBuild S.Resolver T.KeywordTable K.Validate M.Matcher.own
-            resolver.now table.now matcher.now default_options schema.now (V.checked metas.now)) }
-        ensures first { IfErr result (NamesFirst S.Resolver T.KeywordTable K.Validate M.Matcher.own
-            resolver.now table.now matcher.now default_options schema.now (V.checked metas.now)) }
+        ensures built { IfOk result (IsBuilt (handed S.Resolver T.KeywordTable K.Validate M.Matcher.own
+            resolver.now table.now matcher.now) (V.checked metas.now) default_options (view schema.now) default_nested) }
+        ensures refused { IfErr result (IsRefused (handed S.Resolver T.KeywordTable K.Validate M.Matcher.own
+            resolver.now table.now matcher.now) (V.checked metas.now) default_options (view schema.now)) }
     {
         Validator::<K, M>::options(alloc).build(alloc, schema, table, resolver, matcher, metas)
     }

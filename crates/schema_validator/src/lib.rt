@@ -10,7 +10,6 @@ mod map;
 mod options;
 mod validator;
 
-pub use compiled::of_compiled;
 pub use map::ValidatorMap;
 pub use options::ValidationOptions;
 pub use options::root::root_key;

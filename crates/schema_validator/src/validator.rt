@@ -69,6 +69,13 @@ fn unless_refused<'i>(error: Option<ValidationError<'i>>) -> Result<(), Validati
     }
 }
 
+// States that a stopped budget has no step left. Does nothing when it runs.
+fn assert_spent(work: &Work)
+    ensures spent { IsSpentIfStopped work.now }
+{
+    work.is_stopped();
+}
+
 impl<K: Validate, M: Matcher> Validator<K, M> {
     /// Returns a validator of compiled nodes.
     ///
@@ -162,12 +169,12 @@ impl<K: Validate, M: Matcher> Validator<K, M> {
         is_monotone(self.nodes())
     }
 
-    // How many nodes there are, the root's among them. Edges that nothing guards fall in rank.
-    fn node_count(&self) -> usize
+    // States that the root is a node, and that unguarded edges fall in rank. Does nothing when it runs.
+    fn assert_ranked(&self)
         ensures inside { self.now.root < length self.now.nodes }
         ensures ranked { Ranked (numbered K.shape self.now.nodes) (length self.now.nodes) }
     {
-        self.schema.node_count()
+        self.schema.assert_ranked();
     }
 
     /// Like `is_valid`, but spends at most `work` steps, and deducts them from it.
@@ -195,9 +202,9 @@ impl<K: Validate, M: Matcher> Validator<K, M> {
         ensures decides { IsDecidedWithin K.Validate M.Matcher.own self.now instance.now work.old.left
             → OnErr result (StaysUnstopped work.old work.new) }
     {
-        let _ranked = self.node_count();
+        self.assert_ranked();
         let answer = self.schema.valid_under_each(alloc, instance, work);
-        let _spent = work.is_stopped();
+        assert_spent(work);
         Ok(answer?)
     }
 
@@ -267,7 +274,7 @@ impl<K: Validate, M: Matcher> Validator<K, M> {
         ensures decides { AreEnough K.Validate M.Matcher.own self.now instance.now work.old.left
             → OnErr result (StaysUnstopped work.old work.new) }
     {
-        let _ranked = self.node_count();
+        self.assert_ranked();
         self.schema.solved(alloc, true, instance, work)
     }
 
@@ -293,9 +300,9 @@ impl<K: Validate, M: Matcher> Validator<K, M> {
         ensures works { OnOk result (TakesByRuns K.Validate M.Matcher.own self.now (view instance.now) validate work.old work.new) }
         ensures stopped { OnErr result (IsSpentIfStopped work.new) }
     {
-        let _ranked = self.node_count();
+        self.assert_ranked();
         let answer = self.schema.first_under_each(alloc, instance, work);
-        let _spent = work.is_stopped();
+        assert_spent(work);
         Ok(unless_refused(answer?))
     }
 
@@ -321,9 +328,9 @@ impl<K: Validate, M: Matcher> Validator<K, M> {
         ensures works { OnOk result (TakesByRuns K.Validate M.Matcher.own self.now (view instance.now) iter_errors work.old work.new) }
         ensures stopped { OnErr result (IsSpentIfStopped work.new) }
     {
-        let _ranked = self.node_count();
+        self.assert_ranked();
         let answer = self.schema.all_under_each(alloc, instance, work);
-        let _spent = work.is_stopped();
+        assert_spent(work);
         Ok(ErrorIterator::new(answer?))
     }
 
@@ -349,9 +356,9 @@ impl<K: Validate, M: Matcher> Validator<K, M> {
         ensures works { OnOk result (TakesByRuns K.Validate M.Matcher.own self.now (view instance.now) evaluate work.old work.new) }
         ensures stopped { OnErr result (IsSpentIfStopped work.new) }
     {
-        let _ranked = self.node_count();
+        self.assert_ranked();
         let answer = self.schema.evaluated_under_each(alloc, instance, work);
-        let _spent = work.is_stopped();
+        assert_spent(work);
         Ok(Evaluation::new(answer?))
     }
 }

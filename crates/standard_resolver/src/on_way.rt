@@ -1,5 +1,8 @@
 //! Paths from a schema to one of its subschemas, decided by their steps.
 ghost use Rattle.std.specs.Prelude.{◌≡◌};
+ghost use Rattle.std.specs.List.Sorted.{IsStrictlySortedBy};
+ghost use Rattle.std.specs.Map.{keys_of};
+ghost use Rattle.std.specs.String.{string_cmp};
 ghost use Rattle.serde_json.specs.Find.{get};
 ghost use Rattle.serde_json.specs.View.{view};
 ghost use Rattle.theory_definitions.specs.Instance.{same_step, to_member};
@@ -13,7 +16,7 @@ ghost use Rattle.standard_resolver.specs.OnWay.{pair_among, step_among, below_ea
 
 use schema_drafts::Draft;
 use schema_traits::{SchemaPath, SchemaStep};
-use serde_json::Value;
+use serde_json::{Map, Value};
 use standard_subschemas::{Rule, is_schema, names_of_lists, names_of_objects, names_of_values};
 
 /// Returns whether a step leads to the member of this name.
@@ -35,6 +38,13 @@ fn is_schema_there(value: Option<&Value>) -> bool
     }
 }
 
+// States that the names are in order, so each occurs once. Does nothing when it runs.
+fn assert_ordered(members: &Map<String, Value>)
+    ensures ordered { IsStrictlySortedBy string_cmp (keys_of members.now.entries) }
+{
+    members.len();
+}
+
 /// Returns whether a step leads from an object to a member that is a schema.
 fn leads_to_member(value: &Value, step: &SchemaStep) -> bool
     ensures leads { result ≡ leads_to_member (schema_step_of step.now) (view value.now) }
@@ -42,8 +52,7 @@ fn leads_to_member(value: &Value, step: &SchemaStep) -> bool
     let Some(members) = value.as_object() else {
         return false;
     };
-    // The contract of `len` says that the names are in order, so each occurs once.
-    let _count = members.len();
+    assert_ordered(members);
     match step {
         SchemaStep::Member(name) => is_schema_there(value.get(name.as_str())),
         SchemaStep::Item(_) => false,

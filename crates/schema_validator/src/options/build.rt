@@ -1,11 +1,9 @@
 //! Building a validator.
 ghost use Rattle.std.specs.Prelude.{IfOk, IfErr, OnOk};
 ghost use Rattle.serde_json.specs.View.{view};
-ghost use Rattle.schema_validator.specs.Building.{AcceptsAsBuilt, CanBeBuilt, HasUnitsAsBuilt, IsBuiltWith, MeansAsBuilt, NamesFirst};
-ghost use Rattle.schema_validator.specs.Building.{PointsAsBuilt, RefusesToBuild, UnitsPointAsBuilt};
-ghost use Rattle.schema_validator.specs.Checked.{PassesCheck};
+ghost use Rattle.schema_validator.specs.BuildResults.{IsBuilt, IsRefused};
+ghost use Rattle.schema_validator.specs.Handed.{handed};
 ghost use Rattle.schema_validator.specs.RootWords.{FailsIfChecked, PassesIfChecked};
-ghost use Rattle.schema_compiled.specs.Solved.{HasSolver};
 
 use crate::compiled::of_compiled_within;
 use crate::options::ValidationOptions;
@@ -50,26 +48,10 @@ impl ValidationOptions {
         matcher: &M,
         metas: &V,
     ) -> Result<Validator<K, M>, BuildError>
-        ensures means { IfOk result (MeansAsBuilt S.Resolver T.KeywordTable K.Validate M.Matcher.own
-            resolver.now table.now matcher.now self.now schema.now) }
-        ensures units { IfOk result (HasUnitsAsBuilt S.Resolver T.KeywordTable K.Validate M.Matcher.own
-            resolver.now table.now matcher.now self.now schema.now) }
-        ensures points { IfOk result (PointsAsBuilt S.Resolver T.KeywordTable K.Validate M.Matcher.own
-            resolver.now table.now matcher.now self.now schema.now) }
-        ensures units_point { IfOk result (UnitsPointAsBuilt S.Resolver T.KeywordTable K.Validate M.Matcher.own
-            resolver.now table.now matcher.now self.now schema.now) }
-        ensures greatest { IfOk result (AcceptsAsBuilt S.Resolver T.KeywordTable K.Validate M.Matcher.own
-            resolver.now table.now matcher.now self.now schema.now) }
-        ensures program { IfOk result (λ v. IsBuiltWith S.Resolver T.KeywordTable K.Validate M.Matcher.own
-            resolver.now table.now matcher.now self.now schema.now self.now.nested v) }
-        ensures solver { IfOk result HasSolver }
-        ensures built { OnOk result (CanBeBuilt S.Resolver T.KeywordTable K.Validate M.Matcher.own
-            resolver.now table.now matcher.now self.now schema.now) }
-        ensures passed { OnOk result (PassesCheck (S.resolving resolver.now) (V.checked metas.now) self.now (view schema.now)) }
-        ensures refused { IfErr result (RefusesToBuild S.Resolver T.KeywordTable K.Validate M.Matcher.own
-            resolver.now table.now matcher.now self.now schema.now (V.checked metas.now)) }
-        ensures first { IfErr result (NamesFirst S.Resolver T.KeywordTable K.Validate M.Matcher.own
-            resolver.now table.now matcher.now self.now schema.now (V.checked metas.now)) }
+        ensures built { IfOk result (IsBuilt (handed S.Resolver T.KeywordTable K.Validate M.Matcher.own
+            resolver.now table.now matcher.now) (V.checked metas.now) self.now (view schema.now) self.now.nested) }
+        ensures refused { IfErr result (IsRefused (handed S.Resolver T.KeywordTable K.Validate M.Matcher.own
+            resolver.now table.now matcher.now) (V.checked metas.now) self.now (view schema.now)) }
     {
         self.build_nested(
             alloc,
@@ -91,6 +73,7 @@ impl ValidationOptions {
     /// # Errors
     ///
     /// As for `build`: the limit decides nothing of that.
+    #[tactic(auto, using(crate::proofs::RootRefusals::root_refuses, crate::proofs::RootRefusals::memory_refuses))]
     pub fn build_nested<
         S: Resolver,
         T: KeywordTable<K>,
@@ -107,26 +90,10 @@ impl ValidationOptions {
         metas: &V,
         nested: usize,
     ) -> Result<Validator<K, M>, BuildError>
-        ensures means { IfOk result (MeansAsBuilt S.Resolver T.KeywordTable K.Validate M.Matcher.own
-            resolver.now table.now matcher.now self.now schema.now) }
-        ensures units { IfOk result (HasUnitsAsBuilt S.Resolver T.KeywordTable K.Validate M.Matcher.own
-            resolver.now table.now matcher.now self.now schema.now) }
-        ensures points { IfOk result (PointsAsBuilt S.Resolver T.KeywordTable K.Validate M.Matcher.own
-            resolver.now table.now matcher.now self.now schema.now) }
-        ensures units_point { IfOk result (UnitsPointAsBuilt S.Resolver T.KeywordTable K.Validate M.Matcher.own
-            resolver.now table.now matcher.now self.now schema.now) }
-        ensures greatest { IfOk result (AcceptsAsBuilt S.Resolver T.KeywordTable K.Validate M.Matcher.own
-            resolver.now table.now matcher.now self.now schema.now) }
-        ensures program { IfOk result (λ v. IsBuiltWith S.Resolver T.KeywordTable K.Validate M.Matcher.own
-            resolver.now table.now matcher.now self.now schema.now nested v) }
-        ensures solver { IfOk result HasSolver }
-        ensures built { OnOk result (CanBeBuilt S.Resolver T.KeywordTable K.Validate M.Matcher.own
-            resolver.now table.now matcher.now self.now schema.now) }
-        ensures passed { OnOk result (PassesCheck (S.resolving resolver.now) (V.checked metas.now) self.now (view schema.now)) }
-        ensures refused { IfErr result (RefusesToBuild S.Resolver T.KeywordTable K.Validate M.Matcher.own
-            resolver.now table.now matcher.now self.now schema.now (V.checked metas.now)) }
-        ensures first { IfErr result (NamesFirst S.Resolver T.KeywordTable K.Validate M.Matcher.own
-            resolver.now table.now matcher.now self.now schema.now (V.checked metas.now)) }
+        ensures built { IfOk result (IsBuilt (handed S.Resolver T.KeywordTable K.Validate M.Matcher.own
+            resolver.now table.now matcher.now) (V.checked metas.now) self.now (view schema.now) nested) }
+        ensures refused { IfErr result (IsRefused (handed S.Resolver T.KeywordTable K.Validate M.Matcher.own
+            resolver.now table.now matcher.now) (V.checked metas.now) self.now (view schema.now)) }
     {
         let root = root_key(alloc, resolver, self, schema)?;
         let draft = root.draft;

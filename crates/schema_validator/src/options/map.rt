@@ -1,13 +1,13 @@
 //! Building the map of a document's validators.
-ghost use Rattle.std.specs.Prelude.{◌≡◌, IfOk, IfErr, OnOk, Some, string_bytes};
+ghost use Rattle.std.specs.Prelude.{◌≡◌, IfOk, IfErr, Some, string_bytes};
+ghost use Rattle.serde_json.specs.View.{view};
 ghost use Rattle.schema_keys.specs.Alone.{RefusesKeyAlone};
 ghost use Rattle.schema_keys.specs.KeyViews.{key_of};
 ghost use Rattle.schema_traits.specs.Showing.{Shows};
-ghost use Rattle.schema_validator.specs.Building.{CanBeMapped, EachAcceptsAsBuilt, EachHasUnitsAsBuilt, EachIsBuilt, EachMeansAsBuilt};
-ghost use Rattle.schema_validator.specs.Building.{EachPointsAsBuilt, EachSolvesAsBuilt, EachsUnitsPointAsBuilt, HoldsEachThere};
-ghost use Rattle.schema_validator.specs.Building.{HoldsWhatCompiles, NamesFirstOfMap, RefusesToMap};
+ghost use Rattle.schema_validator.specs.BuildResults.{IsMapBuilt, IsMapRefused};
+ghost use Rattle.schema_validator.specs.Handed.{handed};
 ghost use Rattle.schema_validator.specs.MapWords.{GivesCompiled, GivesEntry, GivesIfCompiled, GivesPut, HoldsEntries, HoldsRootKey};
-ghost use Rattle.schema_validator.specs.MapWords.{IsMadeMap, NamesFirstMade, RefusesForOneOf, RefusesMade, key_below, root_held};
+ghost use Rattle.schema_validator.specs.MapWords.{IsMadeMap, RefusesForOneOf, RefusesMade, key_below, root_held};
 ghost use Rattle.schema_validator.specs.Mapped.{name_of};
 
 use crate::compiled::of_compiled_within;
@@ -41,6 +41,7 @@ impl ValidationOptions {
     /// requires a custom vocabulary that is not declared; an entry reaches more keys than the
     /// limit; or out of memory. Then there is no map. If there are several causes, the error names
     /// the first in this order, and the first refused document or vocabulary.
+    #[tactic(auto, using(crate::proofs::RootRefusals::root_refuses_map))]
     pub fn build_map<S: Resolver, T: KeywordTable<K>, K: Validate, M: Matcher, V: MetaValidators>(
         &self,
         alloc: Global,
@@ -50,30 +51,10 @@ impl ValidationOptions {
         matcher: &M,
         metas: &V,
     ) -> Result<ValidatorMap<K, M>, BuildError>
-        ensures holds { IfOk result (HoldsWhatCompiles S.Resolver T.KeywordTable K.Validate M.Matcher.own
-            resolver.now table.now matcher.now self.now schema.now) }
-        ensures means { IfOk result (EachMeansAsBuilt S.Resolver T.KeywordTable K.Validate M.Matcher.own
-            resolver.now table.now matcher.now self.now schema.now) }
-        ensures units { IfOk result (EachHasUnitsAsBuilt S.Resolver T.KeywordTable K.Validate M.Matcher.own
-            resolver.now table.now matcher.now self.now schema.now) }
-        ensures points { IfOk result (EachPointsAsBuilt S.Resolver T.KeywordTable K.Validate M.Matcher.own
-            resolver.now table.now matcher.now self.now schema.now) }
-        ensures units_point { IfOk result (EachsUnitsPointAsBuilt S.Resolver T.KeywordTable K.Validate M.Matcher.own
-            resolver.now table.now matcher.now self.now schema.now) }
-        ensures greatest { IfOk result (EachAcceptsAsBuilt S.Resolver T.KeywordTable K.Validate M.Matcher.own
-            resolver.now table.now matcher.now self.now schema.now) }
-        ensures solver { IfOk result (EachSolvesAsBuilt S.Resolver T.KeywordTable K.Validate M.Matcher.own
-            resolver.now table.now matcher.now self.now schema.now) }
-        ensures programs { IfOk result (EachIsBuilt S.Resolver T.KeywordTable K.Validate M.Matcher.own
-            resolver.now table.now matcher.now self.now schema.now) }
-        ensures at_each { IfOk result (HoldsEachThere S.Resolver T.KeywordTable K.Validate M.Matcher.own
-            resolver.now table.now matcher.now self.now schema.now) }
-        ensures built { OnOk result (CanBeMapped S.Resolver T.KeywordTable K.Validate M.Matcher.own
-            resolver.now table.now matcher.now self.now schema.now (V.checked metas.now)) }
-        ensures refused { IfErr result (RefusesToMap S.Resolver T.KeywordTable K.Validate M.Matcher.own
-            resolver.now table.now matcher.now self.now schema.now (V.checked metas.now)) }
-        ensures first { IfErr result (NamesFirstOfMap S.Resolver T.KeywordTable K.Validate M.Matcher.own
-            resolver.now table.now matcher.now self.now schema.now (V.checked metas.now)) }
+        ensures built { IfOk result (IsMapBuilt (handed S.Resolver T.KeywordTable K.Validate M.Matcher.own
+            resolver.now table.now matcher.now) (V.checked metas.now) self.now (view schema.now)) }
+        ensures refused { IfErr result (IsMapRefused (handed S.Resolver T.KeywordTable K.Validate M.Matcher.own
+            resolver.now table.now matcher.now) (V.checked metas.now) self.now (view schema.now)) }
     {
         let root = root_key(alloc, resolver, self, schema)?;
         let building = MapBuilding {
@@ -104,6 +85,7 @@ struct MapBuilding<'p, S: Resolver, T, M> {
 
 impl<'p, S: Resolver, T, M: Matcher> MapBuilding<'p, S, T, M> {
     /// Returns the map, once the schema is accepted and the root's vocabularies are declared.
+    #[tactic(auto, using(crate::proofs::RootRefusals::memory_refuses_map))]
     fn checked_map<K: Validate, V: MetaValidators>(
         &self,
         metas: &V,
@@ -113,7 +95,6 @@ impl<'p, S: Resolver, T, M: Matcher> MapBuilding<'p, S, T, M> {
         requires root { HoldsRootKey S.Resolver self.now }
         ensures made { IfOk result (IsMadeMap S.Resolver T.KeywordTable K.Validate M.Matcher.own self.now (V.checked metas.now)) }
         ensures refused { IfErr result (RefusesMade S.Resolver T.KeywordTable K.Validate M.Matcher.own self.now (V.checked metas.now)) }
-        ensures first { IfErr result (NamesFirstMade S.Resolver T.KeywordTable K.Validate M.Matcher.own self.now (V.checked metas.now)) }
     {
         let options = self.options;
         validate_schema(

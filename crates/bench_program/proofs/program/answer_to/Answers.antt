@@ -31,7 +31,7 @@ returns-in_err-validator-clause-fault c =
       resolver = r;
       resolves = record { rule = given.rule; document = ap view given.document; uri = given.uri; alone = given.alone; draft = given.draft; drafts = rw c.new.ensures.empty at given.drafts; custom = rw c.new.ensures.empty at given.custom };
     } in
-    let refused : IsRefused asked e = elim c.in_err-validator.ensures.refused [
+    let refused : IsRefused asked e = elim c.in_err-validator.ensures.refused.refused [
       | inl cause ↦ inl (λ spoken.
           subst (λ (ps : List Text). RefusesBuild (parts_of (document_resolving r) bench_table (bench_matcher ps) (words spoken) default_options) schema default_options.limit e)
           c.new-matcher.ensures.patterns (cause spoken))
@@ -63,12 +63,12 @@ returns-clause-answer c =
         resolver = r;
         resolves = record { rule = given.rule; document = ap view given.document; uri = given.uri; alone = given.alone; draft = given.draft; drafts = rw c.new.ensures.empty at given.drafts; custom = rw c.new.ensures.empty at given.custom };
       };
-      builds = λ spoken. subst (λ (ps : List Text). Builds (parts_of (document_resolving r) bench_table (bench_matcher ps) (words spoken) default_options) schema default_options.limit) same (c.in_ok-validator.ensures.built spoken);
-      passes = c.in_ok-validator.ensures.passed;
-      plain = rw c.in_ok-validator.ensures.program.runs_are at (c.in_ok-ask.ensures.means (document_resolving r) bench_table (bench_matcher unfinished) default_options schema
-          (subst (λ (ps : List Text). BenchMeans (document_resolving r) bench_table (bench_matcher ps) default_options schema validator) same c.in_ok-validator.ensures.means)
-          (subst (λ (ps : List Text). BenchHasUnits (document_resolving r) bench_table (bench_matcher ps) default_options schema validator) same c.in_ok-validator.ensures.units));
+      builds = λ spoken. subst (λ (ps : List Text). Builds (parts_of (document_resolving r) bench_table (bench_matcher ps) (words spoken) default_options) schema default_options.limit) same (c.in_ok-validator.ensures.built.builds spoken);
+      passes = c.in_ok-validator.ensures.built.passed;
+      plain = rw c.in_ok-validator.ensures.built.program.runs_are at (c.in_ok-ask.ensures.means (document_resolving r) bench_table (bench_matcher unfinished) default_options schema
+          (subst (λ (ps : List Text). BenchMeans (document_resolving r) bench_table (bench_matcher ps) default_options schema validator) same c.in_ok-validator.ensures.built.means)
+          (subst (λ (ps : List Text). BenchHasUnits (document_resolving r) bench_table (bench_matcher ps) default_options schema validator) same c.in_ok-validator.ensures.built.units));
       program = validator;
-      compiled = subst (λ (ps : List Text). IsProgramOf (document_resolving r) bench_table (bench_matcher ps) default_options default_nested schema shape_of bench_matcher validator) same c.in_ok-validator.ensures.program;
+      compiled = subst (λ (ps : List Text). IsProgramOf (document_resolving r) bench_table (bench_matcher ps) default_options default_nested schema shape_of bench_matcher validator) same c.in_ok-validator.ensures.built.program;
       guarded = c.in_ok-ask.ensures.depth;
     }

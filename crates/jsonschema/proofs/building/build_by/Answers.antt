@@ -3,12 +3,10 @@ use Rattle.jsonschema.proofs.building.build_by.Goals as goal
 
 pub returns-clause-built : goal.returns-clause-built
 returns-clause-built g c =
-    let said = c.build.ensures in
     built_by _ _ _ _ _ _ _ _ c.new-table.result c.in_ok-matcher.matcher c.build.result c.new-table.ensures.refuses c.in_ok-matcher.ensures.kept
-    said.means said.units said.points said.units_point said.greatest said.program said.solver said.built said.passed
+    c.build.ensures.built
 
 pub returns-clause-refused : goal.returns-clause-refused
 returns-clause-refused g c =
-    let said = c.build.ensures in
     refused_by _ _ _ _ _ _ _ _ c.new-table.result c.in_ok-matcher.matcher c.build.result c.new-table.ensures.refuses c.in_ok-matcher.ensures.kept
-    said.refused said.first
+    c.build.ensures.refused

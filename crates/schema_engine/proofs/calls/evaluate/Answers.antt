@@ -1,13 +1,12 @@
 use Rattle.std.specs.Prelude.{Bool}
 use Rattle.std.proofs.lemmas.Result.{err_from_is_err_and}
 use Rattle.serde_json.specs.View.{view}
-use Rattle.schema_drafts.specs.KeywordTable.{builtin_in}
 use Rattle.theory_definitions.specs.Cover.{evaluate}
 use Rattle.theory_definitions.specs.Laws.{EachKeeps}
 use Rattle.theory_meaning.specs.ErrorsLead.{EachKeepsAbsorbing}
 use Rattle.theory_meaning.proofs.TurnsGiveRuns.{keeps_of_turns}
 use Rattle.schema_compiled.specs.Evaluated.{EvaluationAnswered, UnitsAnswered, verdict_in}
-use Rattle.schema_validator.specs.Handed.{default_options, default_runs, handed, table_of}
+use Rattle.schema_validator.specs.Handed.{default_options, default_runs, handed}
 use Rattle.schema_validator.proofs.Pointing.{evaluation_points}
 use Rattle.schema_validator.proofs.PlainAnswers.{plainly_from, plainly_with_units}
 use Rattle.schema_engine.proofs.GreatestCalls.{says_greatest}
@@ -15,59 +14,36 @@ use Rattle.schema_engine.proofs.calls.evaluate.Goals as goal
 
 pub returns-clause-answer : goal.returns-clause-answer
 returns-clause-answer g c =
-    let r = g.S.Resolver.resolving c.args.resolver.now in
-    let table = table_of (g.T.KeywordTable.owned c.args.table.now) builtin_in (g.T.KeywordTable.script c.args.table.now) in
-    let m = g.M.Matcher.matching c.args.matcher.now in
-    let k = g.K.Validate in
-    plainly_from r table m k.words default_options (view c.args.schema.now) k.shape k.is_whole g.M.Matcher.matching c.in_ok-validator.validator (view c.args.instance.now)
-    (λ texts v. EvaluationAnswered v default_runs texts c.in_ok-answer.field-0) c.in_ok-validator.ensures.means (rw c.in_ok-validator.ensures.program.runs_are at (rw c.in_ok-validator.ensures.program.work_is at c.in_ok-answer.ensures.senses))
-
-pub returns-clause-plain_units : goal.returns-clause-plain_units
-returns-clause-plain_units g c =
-    let r = g.S.Resolver.resolving c.args.resolver.now in
-    let table = table_of (g.T.KeywordTable.owned c.args.table.now) builtin_in (g.T.KeywordTable.script c.args.table.now) in
-    let m = g.M.Matcher.matching c.args.matcher.now in
-    let k = g.K.Validate in
-    let built = c.in_ok-validator.ensures in
-    plainly_with_units r table m k.words default_options (view c.args.schema.now) k.shape k.is_whole g.M.Matcher.matching c.in_ok-validator.validator (view c.args.instance.now)
-    (λ texts v units. UnitsAnswered v texts units c.in_ok-answer.field-0) built.means built.units (rw c.in_ok-validator.ensures.program.work_is at c.in_ok-answer.ensures.plain)
-
-pub returns-clause-guarded : goal.returns-clause-guarded
-returns-clause-guarded g c = (c.in_ok-validator.validator, c.in_ok-validator.ensures.program, rw c.in_ok-validator.ensures.program.runs_are at (rw c.in_ok-validator.ensures.program.work_is at c.in_ok-answer.ensures.depth))
-
-pub returns-clause-units : goal.returns-clause-units
-returns-clause-units g c = (c.in_ok-validator.validator, c.in_ok-validator.ensures.program, (rw c.in_ok-validator.ensures.program.work_is at c.in_ok-answer.ensures.units))
-
-pub returns-clause-leads : goal.returns-clause-leads
-returns-clause-leads g c =
-    let r = g.S.Resolver.resolving c.args.resolver.now in
-    let table = table_of (g.T.KeywordTable.owned c.args.table.now) builtin_in (g.T.KeywordTable.script c.args.table.now) in
-    let m = g.M.Matcher.matching c.args.matcher.now in
-    let k = g.K.Validate in
-    let built = c.in_ok-validator.ensures in
-    let each : (texts : Bool) → EachKeepsAbsorbing (k.words texts) k.absorbed =
-    λ texts s. keeps_of_turns (k.words texts) s (k.absorbed s) (k.remaining s) (k.can_be texts s) (k.ends texts s) (k.fits texts s) (g.met.K.Validate.turn_laws texts s) (g.met.K.Validate.function_laws texts s) in (
-      c.in_ok-validator.validator,
-      built.program,
-      rw built.program.runs_are at (evaluation_points r table m k.words default_options (view c.args.schema.now) k.shape g.M.Matcher.matching c.in_ok-validator.validator k.is_whole built.means built.points
-          (view c.args.instance.now) k.absorbed each g.met.K.Validate.hands_units_on (g.met.T.KeywordTable.right c.args.table.now) built.program c.in_ok-answer.field-0 (rw c.in_ok-validator.ensures.program.work_is at c.in_ok-answer.ensures.depth) (rw c.in_ok-validator.ensures.program.work_is at c.in_ok-answer.ensures.units)),
-    )
-
-pub returns-clause-greatest : goal.returns-clause-greatest
-returns-clause-greatest g c =
     let h = handed g.S.Resolver g.T.KeywordTable g.K.Validate g.M.Matcher c.args.resolver.now c.args.table.now c.args.matcher.now in
     let k = g.K.Validate in
-    let keeps : (texts : Bool) → EachKeeps (k.words texts) = λ texts s. (k.absorbed s, keeps_of_turns (k.words texts) s (k.absorbed s) (k.remaining s) (k.can_be texts s) (k.ends texts s) (k.fits texts s) (g.met.K.Validate.turn_laws texts s) (g.met.K.Validate.function_laws texts s)) in
-    let built = c.in_ok-validator.ensures in
-    says_greatest h keeps (g.met.S.Resolver.same c.args.resolver.now) default_options (view c.args.schema.now) c.in_ok-validator.validator built.program built.means (view c.args.instance.now)
-    evaluate (λ texts. verdict_in texts c.in_ok-answer.field-0) (rw c.in_ok-validator.ensures.program.work_is at c.in_ok-answer.ensures.greatest)
+    let schema = view c.args.schema.now in
+    let instance = view c.args.instance.now in
+    let validator = c.in_ok-validator.validator in
+    let built = c.in_ok-validator.ensures.built in
+    let program = built.program in
+    let said = c.in_ok-answer.ensures in
+    let answer = c.in_ok-answer.field-0 in
+    let absorbing : (texts : Bool) → EachKeepsAbsorbing (k.words texts) k.absorbed = λ texts s. keeps_of_turns (k.words texts) s (k.absorbed s) (k.remaining s) (k.can_be texts s) (k.ends texts s) (k.fits texts s) (g.met.K.Validate.turn_laws texts s) (g.met.K.Validate.function_laws texts s) in
+    let keeps : (texts : Bool) → EachKeeps (k.words texts) = λ texts s. (k.absorbed s, absorbing texts s) in
+    record {
+      answer = plainly_from h.resolver h.table h.matcher k.words default_options schema k.shape k.is_whole g.M.Matcher.matching validator instance
+          (λ texts v. EvaluationAnswered v default_runs texts answer) built.means (rw program.runs_are at (rw program.work_is at said.senses));
+      guarded = (validator, program, rw program.runs_are at (rw program.work_is at said.depth));
+      greatest = says_greatest h keeps (g.met.S.Resolver.same c.args.resolver.now) default_options schema validator program built.means instance
+          evaluate (λ texts. verdict_in texts answer) (rw program.work_is at said.greatest);
+      plain_units = plainly_with_units h.resolver h.table h.matcher k.words default_options schema k.shape k.is_whole g.M.Matcher.matching validator instance
+          (λ texts v units. UnitsAnswered v texts units answer) built.means built.units (rw program.work_is at said.plain);
+      units = (validator, program, rw program.work_is at said.units);
+      leads = (
+        validator,
+        program,
+        rw program.runs_are at (evaluation_points h.resolver h.table h.matcher k.words default_options schema k.shape g.M.Matcher.matching validator k.is_whole built.means built.points
+            instance k.absorbed absorbing g.met.K.Validate.hands_units_on (g.met.T.KeywordTable.right c.args.table.now) program answer (rw program.work_is at said.depth) (rw program.work_is at said.units)),
+      );
+      allowed = record { builds = built.builds; passed = built.passed };
+    }
 
 pub returns-in_err-validator-clause-refused : goal.returns-in_err-validator-clause-refused
 returns-in_err-validator-clause-refused g c =
     let p = err_from_is_err_and c.from_residual.result c.from_residual.ensures.1 in
     rw (p.1, p.2) c.in_err-validator.ensures.refused
-
-pub returns-in_err-validator-clause-first : goal.returns-in_err-validator-clause-first
-returns-in_err-validator-clause-first g c =
-    let p = err_from_is_err_and c.from_residual.result c.from_residual.ensures.1 in
-    rw (p.1, p.2) c.in_err-validator.ensures.first

@@ -20,7 +20,7 @@ pub solve_node-requires : goal.solve_node-requires
 solve_node-requires g c =
     let set = solver_of g.K.Validate.words g.K.Validate.is_whole g.K.Validate.shape g.M.Matcher.matching c.args.engine.now in
     let v = c.args.instance.now in
-    let ranked = ranked_table g.K.Validate.shape c.args.engine.now.nodes.now c.len-count.ensures.ordered.0 c.len-count.ensures.ordered.1 in
+    let ranked = ranked_table g.K.Validate.shape c.args.engine.now.nodes.now c.assert_ordered.ensures.ordered.0 c.assert_ordered.ensures.ordered.1 in
     let begins : c.args.context.now ≡ fresh v = c.requires.fresh in
     let place : steps_to c.given-place.result ≡ [] = c.given-place.ensures.same ∙ c.root-root.ensures.root in
     let s = a_value (view v) in
@@ -35,7 +35,7 @@ returns-in-Ok g c =
     let set = solver_of g.K.Validate.words g.K.Validate.is_whole g.K.Validate.shape g.M.Matcher.matching c.args.engine.now in
     let v = c.args.instance.now in
     let i = c.args.node.0 in
-    let ranked = ranked_table g.K.Validate.shape c.args.engine.now.nodes.now c.len-count.ensures.ordered.0 c.len-count.ensures.ordered.1 in
+    let ranked = ranked_table g.K.Validate.shape c.args.engine.now.nodes.now c.assert_ordered.ensures.ordered.0 c.assert_ordered.ensures.ordered.1 in
     let begins : c.args.context.now ≡ fresh v = c.requires.fresh in
     let place : steps_to c.given-place.result ≡ [] = c.given-place.ensures.same ∙ c.root-root.ensures.root in
     let laws : (texts : Bool) → EachKeeps (g.K.Validate.words texts) = λ texts m. (g.K.Validate.absorbed m, keeps_of_turns (g.K.Validate.words texts) m (g.K.Validate.absorbed m) (g.K.Validate.remaining m) (g.K.Validate.can_be texts m) (g.K.Validate.ends texts m) (g.K.Validate.fits texts m) (g.met.K.Validate.turn_laws texts m) (g.met.K.Validate.function_laws texts m)) in

@@ -5,10 +5,10 @@ use Rattle.standard_meta.proofs.Meanings.{compiled_by}
 use Rattle.standard_meta.proofs.meta.validator_of.Goals as goal
 
 pub returns-clause-finishes : goal.returns-clause-finishes
-returns-clause-finishes c = if_ok_mono c.build.result _ _ (λ v program finishes pattern subject reason e.
-    finishes pattern subject reason (ap (λ m. m.is_match pattern subject) (sym program.matcher_is) ∙ e)) c.build.ensures.program
+returns-clause-finishes c = if_ok_mono c.build.result _ _ (λ v built finishes pattern subject reason e.
+    finishes pattern subject reason (ap (λ m. m.is_match pattern subject) (sym built.program.matcher_is) ∙ e)) c.build.ensures.built
 
 pub returns-clause-compiled : goal.returns-clause-compiled
 returns-clause-compiled c = compiled_by _ _ _ _ _ c.new-table.result _ _ c.build.result c.new-table.ensures.refuses
     (c.should_validate_schema-options.ensures.checks ∙ ap (λ (o : Options). record o { checks = false }) c.new.ensures.defaults)
-    c.build.ensures.means c.build.ensures.program
+    c.build.ensures.built

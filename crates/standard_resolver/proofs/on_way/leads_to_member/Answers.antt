@@ -17,7 +17,7 @@ returns-in-Member c =
     ∙ ap (option_map (λ m. members_view m.now.entries)) c.in-Some.is) in
     record {
       leads = c.is_schema_there.ensures.there ∙ ap schema_found c.get.ensures ∙ ap (λ t. schema_found (get t value)) c.as_str.ensures.value
-          ∙ leads_to_the_member (rc_str_bytes c.in-Member.name) value entries is c.len-count.ensures.ordered
+          ∙ leads_to_the_member (rc_str_bytes c.in-Member.name) value entries is c.assert_ordered.ensures.ordered
           ∙ ap (λ s. leads_to_member (schema_step_of s) value) (sym c.in-Member.is);
     }
 

@@ -13,7 +13,7 @@ invariant_of-result g c = record {
   whole = subst (λ (ns : List (NodeEntry g.row.K.Denot)). AreWhole g.K.Validate.is_whole (numbered g.K.Validate.shape ns) (length ns))
       c.nodes-nodes.ensures.nodes (c.show_no_fraction.ensures.exactly.0 c.if-not-show_no_fraction.false);
   ranked = subst (λ (ns : List (NodeEntry g.row.K.Denot)). Ranked (numbered g.K.Validate.shape ns) (length ns))
-      c.nodes-nodes.ensures.nodes (ranked_table g.K.Validate.shape _ c.len-ranked.ensures.ordered.0 c.len-ranked.ensures.ordered.1);
+      c.nodes-nodes.ensures.nodes (ranked_table g.K.Validate.shape _ c.assert_ordered.ensures.ordered.0 c.assert_ordered.ensures.ordered.1);
   inside = c.requires.inside;
   some = c.requires.some;
   unlimited = unlimited_of c.work_limit.result c.work_limit.ensures.work (sym c.is_some.ensures ∙ c.if-is_some.false);

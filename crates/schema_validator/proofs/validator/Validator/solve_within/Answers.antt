@@ -50,7 +50,7 @@ pub returns-clause-greatest : goal.returns-clause-greatest
 returns-clause-greatest g c =
     let k = g.K.Validate in
     let keeps : (texts : Bool) → EachKeeps (k.words texts) = λ texts s. (k.absorbed s, keeps_of_turns (k.words texts) s (k.absorbed s) (k.remaining s) (k.can_be texts s) (k.ends texts s) (k.fits texts s) (g.met.K.Validate.turn_laws texts s) (g.met.K.Validate.function_laws texts s)) in
-    if_ok_mono c.solved.result _ _ (λ found depth. IfSome_then found depth (λ v said. decides_accepted k g.M.Matcher keeps c.args.self.now c.node_count-ranked.ensures.ranked c.node_count-ranked.ensures.inside (view c.args.instance.now) v.valid said)) (returns-clause-depth g c)
+    if_ok_mono c.solved.result _ _ (λ found depth. IfSome_then found depth (λ v said. decides_accepted k g.M.Matcher keeps c.args.self.now c.assert_ranked.ensures.ranked c.assert_ranked.ensures.inside (view c.args.instance.now) v.valid said)) (returns-clause-depth g c)
 
 pub returns-clause-decides : goal.returns-clause-decides
 returns-clause-decides g c = enough_decide g.K.Validate g.M.Matcher c.args.self.now c.args.instance.now c.args.work.now.left c.solved.result c.args.work.now.stopped c.solved.new.work.stopped (returns-clause-late g c)

@@ -11,6 +11,7 @@ use Rattle.schema_compiler.specs.Compilation.{all_parts}
 use Rattle.schema_keys.specs.Compiling.{Each}
 use Rattle.schema_keys.specs.KeyViews.{key_of}
 use Rattle.schema_keys.specs.DocumentSchemas.{IndicesFit, schemas_of}
+use Rattle.schema_validator.specs.BuildResults.{IsMapRefused}
 use Rattle.schema_validator.specs.Entries.{HoldsPlaces, RefusesOneOf}
 use Rattle.schema_validator.specs.Handed.{Options, handed}
 use Rattle.schema_validator.proofs.FirstCauses.{document_first_in_map, entry_first, vocabulary_first}
@@ -24,15 +25,15 @@ returns-in_err-validate_schema-clause-refused g c =
     let h = handed g.S.Resolver g.T.KeywordTable g.K.Validate g.M.Matcher self.resolver.now self.table.now self.matcher.now in
     let root = key_of g.S.Resolver.point self.root.now in
     let p = err_from_is_err_and c.from_residual.result c.from_residual.ensures.1 in
-    rw (p.1, p.2) (refuses_schema h self.options.now (view self.schema.now) root c.requires.root (g.V.MetaValidators.checked c.args.metas.now) _ c.in_err-validate_schema.ensures.refused)
-
-pub returns-in_err-validate_schema-clause-first : goal.returns-in_err-validate_schema-clause-first
-returns-in_err-validate_schema-clause-first g c =
-    let self = c.args.self.now in
-    let h = handed g.S.Resolver g.T.KeywordTable g.K.Validate g.M.Matcher self.resolver.now self.table.now self.matcher.now in
-    let root = key_of g.S.Resolver.point self.root.now in
-    let p = err_from_is_err_and c.from_residual.result c.from_residual.ensures.1 in
-    rw (p.1, p.2) (document_first_in_map h (g.V.MetaValidators.checked c.args.metas.now) self.options.now (view self.schema.now) root c.requires.root _ c.in_err-validate_schema.ensures.refused)
+    let options = self.options.now in
+    let schema = view self.schema.now in
+    let refuses = g.V.MetaValidators.checked c.args.metas.now in
+    let e = c.in_err-validate_schema.field-0.0 in
+    let why : IsMapRefused h refuses options schema e = record {
+      refused = refuses_schema h options schema root c.requires.root refuses e c.in_err-validate_schema.ensures.refused;
+      first = document_first_in_map h refuses options schema root c.requires.root e c.in_err-validate_schema.ensures.refused;
+    } in
+    rw (p.1, p.2) why
 
 pub returns-in_err-check_vocabularies-clause-refused :
     goal.returns-in_err-check_vocabularies-clause-refused
@@ -45,20 +46,14 @@ returns-in_err-check_vocabularies-clause-refused g c =
     let why = λ (texts : Bool). subst (λ (o : Options). RefusesVocabularies (all_parts h.resolver (record { owns = h.table.owns; builtin = builtin; script = h.table.script }) o.formats o.declared h.matcher (h.words texts) o.draft o.base) root e) c.options.view_is
     (c.in_err-check_vocabularies.ensures.refused h.matcher (h.words texts) (option_map draft_of inside.draft) (option_map string_bytes inside.base)) in
     let p = err_from_is_err_and c.from_residual-in_err-check_vocabularies.result c.from_residual-in_err-check_vocabularies.ensures.1 in
-    rw (p.1, p.2) (refuses_vocabularies h self.options.now (view self.schema.now) root c.requires.root (g.V.MetaValidators.checked c.args.metas.now) e why)
-
-pub returns-in_err-check_vocabularies-clause-first :
-    goal.returns-in_err-check_vocabularies-clause-first
-returns-in_err-check_vocabularies-clause-first g c =
-    let self = c.args.self.now in
-    let h = handed g.S.Resolver g.T.KeywordTable g.K.Validate g.M.Matcher self.resolver.now self.table.now self.matcher.now in
-    let root = key_of g.S.Resolver.point self.root.now in
-    let inside = c.options.inside in
-    let e = c.in_err-check_vocabularies.field-0.0 in
-    let why = λ (texts : Bool). subst (λ (o : Options). RefusesVocabularies (all_parts h.resolver (record { owns = h.table.owns; builtin = builtin; script = h.table.script }) o.formats o.declared h.matcher (h.words texts) o.draft o.base) root e) c.options.view_is
-    (c.in_err-check_vocabularies.ensures.refused h.matcher (h.words texts) (option_map draft_of inside.draft) (option_map string_bytes inside.base)) in
-    let p = err_from_is_err_and c.from_residual-in_err-check_vocabularies.result c.from_residual-in_err-check_vocabularies.ensures.1 in
-    rw (p.1, p.2) (vocabulary_first h (g.V.MetaValidators.checked c.args.metas.now) self.options.now (view self.schema.now) root c.requires.root c.in_ok-validate_schema.ensures.accepted e why)
+    let options = self.options.now in
+    let schema = view self.schema.now in
+    let refuses = g.V.MetaValidators.checked c.args.metas.now in
+    let refused : IsMapRefused h refuses options schema e = record {
+      refused = refuses_vocabularies h options schema root c.requires.root refuses e why;
+      first = vocabulary_first h refuses options schema root c.requires.root c.in_ok-validate_schema.ensures.accepted e why;
+    } in
+    rw (p.1, p.2) refused
 
 pub returns-in_ok-paths-in-Some : goal.returns-in_ok-paths-in-Some
 returns-in_ok-paths-in-Some g c =
@@ -80,8 +75,10 @@ returns-in_ok-paths-in-Some g c =
     let fit = subst (Each IndicesFit) c.in_ok-paths-in-Some.ensures.schemas c.in_ok-paths-in-Some.ensures.fit in
     record {
       made = IfOk-weaker made _ _ (λ m is. record { accepted = c.in_ok-validate_schema.ensures.accepted; declared = declared; document = Some document; stands = sym c.in-Some.ensures.value; fit = fit; held = is }) held;
-      refused = IfErr-weaker made _ _ (refuses_entry h options schema root c.requires.root refuses (Some document) (sym c.in-Some.ensures.value)) refused;
-      first = IfErr-weaker made _ _ (entry_first h refuses options schema root c.requires.root c.in_ok-validate_schema.ensures.accepted declared (Some document) (sym c.in-Some.ensures.value)) refused;
+      refused = IfErr-weaker made _ (IsMapRefused h refuses options schema) (λ e why. record {
+        refused = refuses_entry h options schema root c.requires.root refuses (Some document) (sym c.in-Some.ensures.value) e why;
+        first = entry_first h refuses options schema root c.requires.root c.in_ok-validate_schema.ensures.accepted declared (Some document) (sym c.in-Some.ensures.value) e why;
+      }) refused;
     }
 
 pub returns-in-None : goal.returns-in-None
@@ -98,6 +95,8 @@ returns-in-None g c =
     let made = c.map_of-in-None.result in
     record {
       made = IfOk-weaker made _ _ (λ m is. record { accepted = c.in_ok-validate_schema.ensures.accepted; declared = declared; document = None; stands = sym c.in-None.ensures.value; fit = tt; held = is }) c.map_of-in-None.ensures.holds;
-      refused = IfErr-weaker made _ _ (refuses_entry h options schema root c.requires.root refuses None (sym c.in-None.ensures.value)) c.map_of-in-None.ensures.refused;
-      first = IfErr-weaker made _ _ (entry_first h refuses options schema root c.requires.root c.in_ok-validate_schema.ensures.accepted declared None (sym c.in-None.ensures.value)) c.map_of-in-None.ensures.refused;
+      refused = IfErr-weaker made _ (IsMapRefused h refuses options schema) (λ e why. record {
+        refused = refuses_entry h options schema root c.requires.root refuses None (sym c.in-None.ensures.value) e why;
+        first = entry_first h refuses options schema root c.requires.root c.in_ok-validate_schema.ensures.accepted declared None (sym c.in-None.ensures.value) e why;
+      }) c.map_of-in-None.ensures.refused;
     }
