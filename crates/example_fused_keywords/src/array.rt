@@ -1,4 +1,6 @@
 //! `minItems`, and an `items` that absorbs it and `type`.
+//!
+//! `minItems` alone and the `items` that absorbs it have one form, and so one proof.
 ghost use Rattle.std.specs.Prelude.{◌≡◌, ◌+◌, ◌^◌, ◌<◌, Bool, IfOk, IfSome, map, option_map, true};
 ghost use Rattle.schema_reports.specs.InstanceViews.{subject_of};
 ghost use Rattle.theory_definitions.specs.Keywords.{for_first};

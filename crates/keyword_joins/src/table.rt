@@ -1,4 +1,7 @@
 //! The join of two keyword tables by a list of names.
+//!
+//! A join gets the names of the first table, because no function of the trait returns the names for
+//! which a table makes keywords.
 ghost use Rattle.std.specs.Prelude.{◌≡◌, ◌||◌, bytes_eq, IfOk};
 ghost use Rattle.std.specs.List.{list_any};
 ghost use Rattle.schema_traits.specs.MakerViews.{TakesTurn, maker_reply_of};

@@ -1,4 +1,7 @@
 //! Compiled schemas, and the answers of their runs and of their solver.
+//!
+//! `validate` and `iter_errors` find the verdict first if the matcher finishes every match: a run for a
+//! verdict takes two thirds of the time of a run for errors.
 ghost use Rattle.std.specs.Prelude.{◌≡◌, ◌&&◌, ◌<◌, ◌≤◌, [], false, true, None, Option, IfOk, All, IfSome, IsSome, OnErr, OnOk};
 ghost use Rattle.std.specs.Prelude.{is_some, length, slice_get};
 ghost use Rattle.schema_traits.specs.Showing.{Shows};

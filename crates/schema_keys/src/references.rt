@@ -1,4 +1,7 @@
 //! References: where they lead, and the keys of their targets.
+//!
+//! An empty reference is read as `#`, so a resolver never gets an empty text. A reference is resolved
+//! before its key is looked up, because the fragment of its URI gives the place of the target.
 ghost use Rattle.std.specs.Prelude.{◌≡◌, IfOk, IfErr, Ok, not, option_map, string_bytes};
 ghost use Rattle.std.specs.Str.Lossy.{utf8_lossy};
 ghost use Rattle.percent_encoding.specs.Percent.{percent_decode};

@@ -1,4 +1,7 @@
 //! The solver of some nodes, and the verdicts that it finds.
+//!
+//! Matches that stay unfinished are left to the guarded run, because a solver meets other matches than
+//! that run does.
 ghost use Rattle.std.specs.Prelude.{◌≡◌, ◌<◌, ◌+◌, ◌&&◌, [], IfOk, IfSome, None, OnErr, false, is_some, length, true};
 ghost use Rattle.serde_json.specs.View.{view};
 ghost use Rattle.schema_solver_state.specs.Following.{IsFollowing};

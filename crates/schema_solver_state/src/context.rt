@@ -1,4 +1,9 @@
 //! The state of a solver: pairs in progress, pairs assumed to be valid, and known verdicts.
+//!
+//! One call decides what happens to a pair. So a verdict that is forgotten, or one that is settled
+//! although it depends on an assumption, is refused where it would be written. The context on which a
+//! verdict depends counts the pairs that were begun: a call that returned the number could return a
+//! smaller one.
 ghost use Rattle.std.specs.Prelude.{◌≡◌, ◌<◌, ◌≤◌, []};
 ghost use Rattle.std.specs.Prelude.{All, IfOk, IfSome, None, OnErr, OnOk, false, true, ℕ};
 ghost use Rattle.std.specs.Prelude.{length, take};

@@ -1,4 +1,7 @@
 //! The keyword table, whose makers make keywords by turns.
+//!
+//! A table says whether the text of a refusal is defined. It has to be defined if the object has no
+//! fraction.
 ghost use Rattle.std.specs.Prelude.{◌≡◌, ◌<◌, Bool, IfOk};
 ghost use Rattle.schema_traits.specs.Showing.{Shows};
 ghost use Rattle.serde_json.specs.View.{members_view};

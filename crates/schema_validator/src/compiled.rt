@@ -1,4 +1,7 @@
 //! Validators of compiled nodes.
+//!
+//! That the nodes were compiled from the root's key is a premise inside the clauses. A caller who cannot
+//! show it loses only what the clauses promise.
 ghost use Rattle.std.specs.Prelude.{◌≡◌, ◌<◌, ◌≤◌, IfOk, length};
 ghost use Rattle.schema_drafts.specs.KeywordViews.{draft_of};
 ghost use Rattle.schema_validator.specs.Called.{HasUnitsAsCompiled, MeansAsCompiled};

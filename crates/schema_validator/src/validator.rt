@@ -1,4 +1,7 @@
 //! Validators: compiled schemas that validate instances.
+//!
+//! `is_valid` returns no context, and so no count. `solve` evaluates what `is_valid` does, by the same
+//! function.
 ghost use Rattle.std.specs.Prelude.{◌≡◌, ◌↔◌, ◌<◌, ◌≤◌, true, None, IfOk, OnErr, length, OnOk};
 ghost use Rattle.serde_json.specs.View.{view};
 ghost use Rattle.theory_definitions.specs.Cover.{evaluate, is_valid, iter_errors, validate};

@@ -1,4 +1,8 @@
 //! What the table does with each keyword of the standard.
+//!
+//! One function of draft, object and name decides which table makes a keyword. `unevaluatedItems` and
+//! `unevaluatedProperties` are refused: what a subschema evaluated is known through references, and no
+//! turn sees it.
 ghost use Rattle.std.specs.Prelude.{◌≡◌, codes, string_bytes};
 ghost use Rattle.serde_json.specs.Find.{get_member};
 ghost use Rattle.schema_drafts.specs.KeywordViews.{builtin_text, draft_of};

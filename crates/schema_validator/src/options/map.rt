@@ -1,4 +1,7 @@
 //! Building the map of a document's validators.
+//!
+//! An entry is compiled as a subschema of the root by itself. Its own vocabularies are not checked; those
+//! of the root are, once.
 ghost use Rattle.std.specs.Prelude.{◌≡◌, IfOk, IfErr, Some, string_bytes};
 ghost use Rattle.serde_json.specs.View.{view};
 ghost use Rattle.schema_keys.specs.Alone.{RefusesKeyAlone};
