@@ -25,6 +25,7 @@ use Rattle.schema_traits.specs.declared.keyword.Reply.TheVariants as reply
 use Rattle.schema_traits.specs.declared.keyword.OwnError.{OwnError}
 use Rattle.schema_traits.specs.declared.keyword.Fault.{Fault}
 use Rattle.schema_traits.specs.declared.keyword.Fault.TheVariants as fault
+use Rattle.schema_traits.specs.declared.keyword.Found.{Found}
 use Rattle.schema_traits.specs.declared.keyword.Answer.{Answer}
 use Rattle.schema_traits.specs.declared.keyword.Answer.TheVariants as answer
 
@@ -130,6 +131,10 @@ answer_of texts (answer.Verdict b) = record { mode = spec.for_verdict; verdict =
 answer_of texts (answer.First f) = with_errors spec.for_first (option_list (option_map (λ b. fault_of texts b.value) f))
 answer_of texts (answer.All fs) = with_errors spec.for_all (map (fault_of texts) fs.items)
 answer_of texts (answer.Evaluation b) = with_gives (gives_with texts b.value.own b.value.absorbed.items)
+
+-- the result of an evaluation is what the answer gives, whether texts are covered or not
+abbrev pub GivesResult : Answer → Found → Type 0
+GivesResult answer found = (texts : Bool) → gives_with texts found.own found.absorbed.items ≡ (answer_of texts answer).gives
 
 -- the answer with which a run of a mode begins
 abbrev pub fresh : spec.Mode → spec.Answer

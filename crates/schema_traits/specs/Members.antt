@@ -16,6 +16,10 @@ use Rattle.schema_traits.specs.AskedAtOnce.{first_at_name}
 abbrev pub Entries : Type 0
 Entries = List (String Global × Value)
 
+-- an object with these members, as a subject
+abbrev pub of_members : Entries → Subject
+of_members members = a_value (object (members_view members))
+
 -- the members ascend, and each of these names leads to the same in them as in the subject
 pub record HaveAllOf (s : Subject) (names : List Text) (members : Entries) : Type 0 where
   pub ascend : IsStrictlySortedBy string_cmp (keys_of members)

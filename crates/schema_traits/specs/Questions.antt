@@ -64,6 +64,10 @@ pub record QuestionsLeft : Type 0 where
 abbrev pub AsksFirst : Subject → List Question → Option AskedQuestion → List Question → Type 0
 AsksFirst s old asked new = MatchOption asked ((old ≡ []) × (new ≡ [])) (λ a. (old ≡ question_in a ∷ new) × StandsThere s a)
 
+-- the first of the old questions is asked and the others are left, or there was none
+abbrev pub AsksNext : List Question → Option AskedQuestion → List Question → Type 0
+AsksNext old asked new = MatchOption asked (old ≡ []) (λ a. old ≡ question_in a ∷ new)
+
 -- the verdict by the answers to these questions: all of them accept, or one of them does
 abbrev pub answers_say : Bool → (Question → Bool) → List Question → Bool
 answers_say true accepts qs = list_all accepts qs

@@ -14,14 +14,13 @@ ghost use Rattle.schema_reports.specs.InstanceViews.{subject_of};
 ghost use Rattle.theory_definitions.specs.Keywords as spec;
 ghost use Rattle.theory_definitions.specs.Turns.{Standing, TurnLaws, FunctionLaws};
 ghost use Rattle.schema_reports.specs.ReportViews.{BorrowsItsPlace};
-ghost use Rattle.schema_reports.specs.EvaluationResults.{gives_with};
 ghost use Rattle.theory_definitions.specs.Remembering.{EachAsksVerdicts};
 ghost use Rattle.theory_meaning.specs.Greatest.{IsMonotone};
 ghost use Rattle.theory_meaning.specs.UnitsLead.{EachHandsUnitsOn};
 ghost use Rattle.schema_traits.specs.AskedAtOnce.{HoldsAsTold};
 ghost use Rattle.schema_traits.specs.AtOnce.{EndsAtOnce};
 ghost use Rattle.schema_traits.specs.FaultViews.{errors_in, faults_in, PassesBorrowed};
-ghost use Rattle.schema_traits.specs.KeywordViews.{mode_of, reply_of, answer_of, fresh, turn_of, Tells};
+ghost use Rattle.schema_traits.specs.KeywordViews.{GivesResult, mode_of, reply_of, answer_of, fresh, turn_of, Tells};
 ghost use Rattle.schema_traits.specs.UnitQuestions.{AsksNoUnits};
 
 use crate::asking::Asking;
@@ -191,8 +190,7 @@ impl<'i> Answer<'i> {
     /// answer of another mode yields its verdict alone. An answer of an evaluation holds the result
     /// already, so that no memory is needed.
     pub fn into_evaluation(self, alloc: Global) -> Result<Box<Found>, OutOfMemory>
-        ensures gives { IfOk result (λ found. (texts : Bool)
-            → gives_with texts found.value.own found.value.absorbed.items ≡ (answer_of texts self.entry).gives) }
+        ensures gives { IfOk result (λ found. GivesResult self.entry found.value) }
     {
         let accepting = match self {
             Answer::Verdict(valid) => valid,

@@ -1,11 +1,10 @@
 //! Questions to a keyword's children at its own place, and at items.
-ghost use Rattle.std.specs.Prelude.{◌≡◌, ◌∷◌, ◌-◌, ◌≤◌, [], IfSome, MatchOption, length, map, min};
-ghost use Rattle.serde_json.specs.Data.{array};
-ghost use Rattle.serde_json.specs.View.{items_view};
-ghost use Rattle.theory_definitions.specs.Instance.{Subject, a_value};
+ghost use Rattle.std.specs.Prelude.{◌≡◌, ◌≤◌, [], IfSome, length, map, min};
+ghost use Rattle.theory_definitions.specs.Instance.{Subject};
 ghost use Rattle.schema_reports.specs.InstanceViews.{subject_of};
 ghost use Rattle.schema_traits.specs.AskedAtOnce.{child_at, child_here, numbers_from};
-ghost use Rattle.schema_traits.specs.Questions.{AsksFirst, StandsThere, question_in};
+ghost use Rattle.schema_traits.specs.Questions.{AsksFirst, AsksNext, StandsThere};
+ghost use Rattle.schema_traits.specs.Walks.{of_items, at_items_from, children_between, listed_between};
 
 use crate::asked::AskedQuestion;
 use schema_reports::{Instance, InstanceStep};
@@ -89,8 +88,8 @@ impl<'i> CountedQuestions<'i> {
     /// Allocates nothing.
     #[inline(always)]
     pub fn items(next: usize, items: &'i [Value]) -> CountedQuestions<'i>
-        ensures subject { result.subject ≡ a_value (array (items_view items.now)) }
-        ensures left { result.left ≡ map (child_at 0) (numbers_from next (length items.now - next)) }
+        ensures subject { result.subject ≡ of_items items.now }
+        ensures left { result.left ≡ at_items_from next items.now }
     {
         CountedQuestions {
             walk: Walk::Items(ItemsWalk { items, next }),
@@ -103,7 +102,7 @@ impl<'i> CountedQuestions<'i> {
     /// nothing.
     #[inline(always)]
     pub fn listed(count: usize, items: &'i [Value]) -> CountedQuestions<'i>
-        ensures subject { result.subject ≡ a_value (array (items_view items.now)) }
+        ensures subject { result.subject ≡ of_items items.now }
         ensures left { result.left ≡ map (λ k. child_at k k) (numbers_from 0 (min count (length items.now))) }
     {
         CountedQuestions {
@@ -118,8 +117,8 @@ impl<'i> CountedQuestions<'i> {
     /// Returns the next question, or `None` if none is left. Allocates nothing.
     #[inline(always)]
     pub fn next(&mut self) -> Option<AskedQuestion<'i>>
-        ensures next { MatchOption result (self.old.left ≡ []) (λ a. self.old.left ≡ question_in a ∷ self.new.left) }
-        ensures there { IfSome result (λ a. StandsThere self.old.subject a) }
+        ensures next { AsksNext self.old.left result self.new.left }
+        ensures there { IfSome result (StandsThere self.old.subject) }
         ensures ended { self.old.left ≡ [] → self.new.left ≡ [] }
         ensures subject { self.new.subject ≡ self.old.subject }
     {
@@ -133,8 +132,7 @@ impl<'i> CountedQuestions<'i> {
 
 #[inline(always)]
 fn next_here<'i>(next: &mut usize, end: usize) -> Option<AskedQuestion<'i>>
-    ensures asks { (s : Subject) → AsksFirst s (map child_here (numbers_from next.old (end - next.old))) result
-        (map child_here (numbers_from next.new (end - next.new))) }
+    ensures asks { (s : Subject) → AsksFirst s (children_between next.old end) result (children_between next.new end) }
 {
     if *next >= end {
         return None;
@@ -146,9 +144,7 @@ fn next_here<'i>(next: &mut usize, end: usize) -> Option<AskedQuestion<'i>>
 
 #[inline(always)]
 fn next_item<'i>(items: &'i [Value], next: &mut usize) -> Option<AskedQuestion<'i>>
-    ensures asks { AsksFirst (a_value (array (items_view items.now)))
-        (map (child_at 0) (numbers_from next.old (length items.now - next.old))) result
-        (map (child_at 0) (numbers_from next.new (length items.now - next.new))) }
+    ensures asks { AsksFirst (of_items items.now) (at_items_from next.old items.now) result (at_items_from next.new items.now) }
 {
     if *next >= items.len() {
         return None;
@@ -164,9 +160,7 @@ fn next_item<'i>(items: &'i [Value], next: &mut usize) -> Option<AskedQuestion<'
 #[inline(always)]
 fn next_listed<'i>(items: &'i [Value], next: &mut usize, end: usize) -> Option<AskedQuestion<'i>>
     requires within { end ≤ length items.now }
-    ensures asks { AsksFirst (a_value (array (items_view items.now)))
-        (map (λ k. child_at k k) (numbers_from next.old (end - next.old))) result
-        (map (λ k. child_at k k) (numbers_from next.new (end - next.new))) }
+    ensures asks { AsksFirst (of_items items.now) (listed_between next.old end) result (listed_between next.new end) }
 {
     if *next >= end {
         return None;

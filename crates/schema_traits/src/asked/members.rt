@@ -1,10 +1,8 @@
 //! Questions to a keyword's children at the members with their names.
-ghost use Rattle.std.specs.Prelude.{◌≡◌, ◌∷◌, [], IfSome, MatchOption, drop};
-ghost use Rattle.serde_json.specs.Data.{object};
-ghost use Rattle.serde_json.specs.View.{members_view};
-ghost use Rattle.theory_definitions.specs.Instance.{Subject, a_value};
-ghost use Rattle.schema_traits.specs.Members.{HaveAllOf};
-ghost use Rattle.schema_traits.specs.Questions.{AsksFirst, StandsThere, at_names, question_in};
+ghost use Rattle.std.specs.Prelude.{◌≡◌, [], IfSome, drop};
+ghost use Rattle.theory_definitions.specs.Instance.{Subject};
+ghost use Rattle.schema_traits.specs.Members.{HaveAllOf, of_members};
+ghost use Rattle.schema_traits.specs.Questions.{AsksFirst, AsksNext, StandsThere, at_names};
 
 use crate::ascending::AscendingNames;
 use crate::asked::AskedQuestion;
@@ -56,8 +54,8 @@ impl<'s, 'i> MembersQuestions<'s, 'i> {
         names: &'s AscendingNames,
         members: &'i Map<String, Value>,
     ) -> MembersQuestions<'s, 'i>
-        ensures subject { result.subject ≡ a_value (object (members_view members.now.entries)) }
-        ensures left { result.left ≡ at_names (a_value (object (members_view members.now.entries))) 0 names.now }
+        ensures subject { result.subject ≡ of_members members.now.entries }
+        ensures left { result.left ≡ at_names (of_members members.now.entries) 0 names.now }
     {
         MembersQuestions {
             whole: members,
@@ -70,8 +68,8 @@ impl<'s, 'i> MembersQuestions<'s, 'i> {
     /// Returns the next question, or `None` if none is left. Allocates nothing.
     #[inline(always)]
     pub fn next(&mut self) -> Option<AskedQuestion<'i>>
-        ensures next { MatchOption result (self.old.left ≡ []) (λ a. self.old.left ≡ question_in a ∷ self.new.left) }
-        ensures there { IfSome result (λ a. StandsThere self.old.subject a) }
+        ensures next { AsksNext self.old.left result self.new.left }
+        ensures there { IfSome result (StandsThere self.old.subject) }
         ensures ended { self.old.left ≡ [] → self.new.left ≡ [] }
         ensures subject { self.new.subject ≡ self.old.subject }
     {

@@ -1,10 +1,8 @@
 //! Questions to a keyword's first child at the names of members.
-ghost use Rattle.std.specs.Prelude.{◌≡◌, ◌∷◌, [], IfSome, MatchOption};
-ghost use Rattle.serde_json.specs.Data.{object};
-ghost use Rattle.serde_json.specs.View.{members_view};
-ghost use Rattle.theory_definitions.specs.Instance.{Subject, a_value};
-ghost use Rattle.schema_traits.specs.Members.{AreNamed, at_their_names};
-ghost use Rattle.schema_traits.specs.Questions.{AsksFirst, StandsThere, question_in};
+ghost use Rattle.std.specs.Prelude.{◌≡◌, [], IfSome};
+ghost use Rattle.theory_definitions.specs.Instance.{Subject};
+ghost use Rattle.schema_traits.specs.Members.{AreNamed, at_their_names, of_members};
+ghost use Rattle.schema_traits.specs.Questions.{AsksFirst, AsksNext, StandsThere};
 
 use crate::asked::AskedQuestion;
 use schema_reports::{Instance, InstanceStep};
@@ -45,7 +43,7 @@ impl<'i> NamesQuestions<'i> {
     /// Allocates nothing.
     #[inline(always)]
     pub fn of(members: &'i Map<String, Value>) -> NamesQuestions<'i>
-        ensures subject { result.subject ≡ a_value (object (members_view members.now.entries)) }
+        ensures subject { result.subject ≡ of_members members.now.entries }
         ensures left { result.left ≡ at_their_names members.now.entries }
     {
         NamesQuestions {
@@ -57,8 +55,8 @@ impl<'i> NamesQuestions<'i> {
     /// Returns the next question, or `None` if none is left. Allocates nothing.
     #[inline(always)]
     pub fn next(&mut self) -> Option<AskedQuestion<'i>>
-        ensures next { MatchOption result (self.old.left ≡ []) (λ a. self.old.left ≡ question_in a ∷ self.new.left) }
-        ensures there { IfSome result (λ a. StandsThere self.old.subject a) }
+        ensures next { AsksNext self.old.left result self.new.left }
+        ensures there { IfSome result (StandsThere self.old.subject) }
         ensures ended { self.old.left ≡ [] → self.new.left ≡ [] }
         ensures subject { self.new.subject ≡ self.old.subject }
     {
