@@ -4,6 +4,8 @@ use Rattle.std.specs.List.{list_all}
 use Rattle.std.specs.Prelude.{Bool, Contains, List, None, Option, Some, false, length, nat_le, not, slice_get, slice_index_or, true, ℕ, ◌&&◌, ◌≡◌}
 use Rattle.theory_definitions.specs.Guarded.{NodeEdge, NodeForm, NodePlan, node_always, node_edges, node_keyword, node_never, node_reference, node_these}
 use Rattle.schema_node_table.specs.NodeTable.{IsOrdered, NodeEntry, plan_in}
+use Rattle.schema_node_table.specs.NodeViews.{node_of}
+use Rattle.schema_node_table.specs.declared.node.Node.{Node}
 
 -- a set of numbers is closed under the edges: no edge of a number in it is guarded, and each leads
 -- to a number in it
@@ -42,6 +44,10 @@ module _ (closed : ℕ → Bool) where
   plan_closes node_always = true
   plan_closes node_never = true
   plan_closes (node_these xs) = list_all (λ x. form_closes x.form) xs
+
+-- the same for a node, with the numbers that have a weight
+abbrev pub node_closes : {K : Type 0} → List ℕ → Node K → Bool
+node_closes weights n = plan_closes (has_weight weights) (plan_in (Some (node_of n)))
 
 -- there is a weight for each number of the table, and the numbers whose weight is not 0 are closed
 pub record AreWeighed {K : Type 0} (ns : List (NodeEntry K)) (weights : List ℕ) : Type 0 where

@@ -74,6 +74,10 @@ numbered shape ns = record {
   rank = λ i. unwrap_or (option_map (rank_of ns) (slice_get ns i)) 0;
 }
 
+-- there is a node at the number, and this is the answer about it
+abbrev pub AnswersAt : {K A : Type 0} → List (NodeEntry K) → ℕ → (NodeEntry K → A) → A → Type 0
+AnswersAt {K} ns i asked answer = (n : NodeEntry K) × (slice_get ns i ≡ Some n) × (answer ≡ asked n)
+
 -- how many nodes have their form
 abbrev pub filled_count : {K : Type 0} → List (NodeEntry K) → ℕ
 filled_count [] = 0

@@ -1,5 +1,7 @@
 -- The code's nodes as data.
-use Rattle.std.specs.Prelude.{Bool, ℕ, Option, Some, None, false, string_bytes, map, option_map, true}
+use Rattle.std.specs.Prelude.{Bool, ℕ, Option, Some, None, String, false, string_bytes, map, option_map, true}
+use Rattle.std.specs.declared.alloc.Global.{Global}
+use Rattle.std.specs.declared.vec.Vec.{Vec}
 use Rattle.theory_definitions.specs.Instance.{Text}
 use Rattle.theory_definitions.specs.Guarded as spec
 use Rattle.schema_node_table.specs.NodeTable.{NodeEntry}
@@ -26,6 +28,10 @@ plan_of (Keywords xs) = spec.node_these (map entry_of xs.items)
 abbrev pub node_of : {K : Type 0} → Node K → NodeEntry K
 node_of n = record { location = n.location; base = option_map string_bytes n.base; start = n.start; round = n.round; order = n.order; settled = n.settled; annotations = n.annotations; plan = option_map plan_of n.form }
 
+-- the plan of these entries
+abbrev pub plan_with : {K : Type 0} → Vec (Entry K) Global → spec.NodePlan K
+plan_with entries = spec.node_these (map entry_of entries.items)
+
 -- the plan of a boolean
 abbrev pub boolean_plan : {K : Type 0} → Bool → spec.NodePlan K
 boolean_plan true = spec.node_always
@@ -38,6 +44,10 @@ unfilled_node location base start round = record { location = location; base = b
 -- a node whose number is reserved and in progress in this round
 abbrev pub reserved_node : {K : Type 0} → Text → Option Text → ℕ → ℕ → NodeEntry K
 reserved_node location base start round = unfilled_node location base start (Some round)
+
+-- a node without a form, from the values of the code
+abbrev pub new_node : {K : Type 0} → Text → Option (String Global) → ℕ → Option ℕ → NodeEntry K
+new_node location base start round = unfilled_node location (option_map string_bytes base) start round
 
 -- a node whose number is reserved and waits
 abbrev pub waiting_node : {K : Type 0} → Text → Option Text → ℕ → NodeEntry K

@@ -4,10 +4,9 @@
 //! from its round, its order and whether it is final, so no pass computes it, and it cannot
 //! overflow.
 ghost use Rattle.std.specs.Prelude.{◌≡◌, ◌<◌, [], ℕ, Some, true, false};
-ghost use Rattle.std.specs.Prelude.{length, map, option_map, slice_get, string_bytes};
-ghost use Rattle.schema_node_table.specs.NodeViews.{boolean_plan, entry_of, plan_of, reserved_node, unfilled_node, waiting_node, node_of};
-ghost use Rattle.theory_definitions.specs.Guarded.{node_these};
-ghost use Rattle.schema_node_table.specs.NodeTable.{NodeEntry, IsReserved, Waits, IsBegun, IsFilled, AreFilled, MayBeFilled};
+ghost use Rattle.std.specs.Prelude.{length, slice_get};
+ghost use Rattle.schema_node_table.specs.NodeViews.{boolean_plan, new_node, node_of, plan_of, plan_with};
+ghost use Rattle.schema_node_table.specs.NodeTable.{AnswersAt, IsReserved, Waits, IsBegun, IsFilled, AreFilled, MayBeFilled};
 ghost use Rattle.schema_node_table.specs.NodeTable.{AddsFilled, AddsNode, Fills, Begins, ComesLast, IsOrdered, IsNewRound, guards_at};
 ghost use Rattle.schema_node_table.specs.NodeTable.{is_settled_entry};
 
@@ -148,7 +147,7 @@ impl<K: Drop> Nodes<K> {
         start: usize,
         round: Option<usize>,
     ) -> Result<SchemaNode, OutOfMemory>
-        ensures { AddsNode self.old self.new result (unfilled_node location (option_map string_bytes base) start round) }
+        ensures { AddsNode self.old self.new result (new_node location base start round) }
     {
         self.weights.clear();
         let number = self.nodes.len();
@@ -177,7 +176,7 @@ impl<K: Drop> Nodes<K> {
         start: usize,
         round: usize,
     ) -> Result<SchemaNode, OutOfMemory>
-        ensures { AddsNode self.old self.new result (reserved_node location (option_map string_bytes base) start round) }
+        ensures { AddsNode self.old self.new result (new_node location base start (Some round)) }
     {
         self.next(location, base, start, Some(round))
     }
@@ -193,7 +192,7 @@ impl<K: Drop> Nodes<K> {
         base: Option<String>,
         start: usize,
     ) -> Result<SchemaNode, OutOfMemory>
-        ensures { AddsNode self.old self.new result (waiting_node location (option_map string_bytes base) start) }
+        ensures { AddsNode self.old self.new result (new_node location base start None) }
     {
         self.next(location, base, start, None)
     }
@@ -245,8 +244,7 @@ impl<K: Drop> Nodes<K> {
         annotations: Option<Value>,
     ) -> Result<SchemaNode, OutOfMemory>
         requires ready { AreFilled self.old (plan_of form) }
-        ensures { AddsFilled self.old self.new result (reserved_node location (option_map string_bytes base) start 0)
-            annotations (plan_of form) }
+        ensures { AddsFilled self.old self.new result (new_node location base start (Some 0)) annotations (plan_of form) }
     {
         let node = self.reserve(location, base, start, 0)?;
         self.assert_ordered();
@@ -266,8 +264,7 @@ impl<K: Drop> Nodes<K> {
         start: usize,
         accepts: bool,
     ) -> Result<SchemaNode, OutOfMemory>
-        ensures { AddsFilled self.old self.new result (reserved_node location (option_map string_bytes base) start 0)
-            None (boolean_plan accepts) }
+        ensures { AddsFilled self.old self.new result (new_node location base start (Some 0)) None (boolean_plan accepts) }
     {
         let form = if accepts {
             NodeForm::Always
@@ -290,9 +287,8 @@ impl<K: Drop> Nodes<K> {
         entries: Vec<Entry<K>>,
         annotations: Option<Value>,
     ) -> Result<SchemaNode, OutOfMemory>
-        requires ready { AreFilled self.old (node_these (map entry_of entries.items)) }
-        ensures { AddsFilled self.old self.new result (reserved_node location (option_map string_bytes base) start 0)
-            annotations (node_these (map entry_of entries.items)) }
+        requires ready { AreFilled self.old (plan_with entries) }
+        ensures { AddsFilled self.old self.new result (new_node location base start (Some 0)) annotations (plan_with entries) }
     {
         self.add(
             location,
@@ -317,9 +313,8 @@ impl<K: Drop> Nodes<K> {
         start: usize,
         entries: Vec<Entry<K>>,
     ) -> Result<SchemaNode, OutOfMemory>
-        requires ready { AreFilled self.old (node_these (map entry_of entries.items)) }
-        ensures { AddsFilled self.old self.new result (reserved_node location (option_map string_bytes base) start 0)
-            None (node_these (map entry_of entries.items)) }
+        requires ready { AreFilled self.old (plan_with entries) }
+        ensures { AddsFilled self.old self.new result (new_node location base start (Some 0)) None (plan_with entries) }
     {
         self.from_keywords(location, base, start, entries, None)
     }
@@ -345,7 +340,7 @@ impl<K: Drop> Nodes<K> {
     /// Returns `true` if the number has its form and is final.
     pub fn is_settled(&self, node: SchemaNode) -> bool
         requires within { node.0 < length self.now }
-        ensures settled { (n : NodeEntry K) × (slice_get self.now node.0 ≡ Some n) × (result ≡ is_settled_entry n) }
+        ensures settled { AnswersAt self.now node.0 is_settled_entry result }
     {
         let entry = self.node(node);
         entry.form.is_some() && entry.settled
@@ -354,7 +349,7 @@ impl<K: Drop> Nodes<K> {
     /// Returns `true` if an edge made to the number in this round is guarded.
     pub fn guards_from(&self, node: SchemaNode, round: usize) -> bool
         requires within { node.0 < length self.now }
-        ensures guards { (n : NodeEntry K) × (slice_get self.now node.0 ≡ Some n) × (result ≡ guards_at round n) }
+        ensures guards { AnswersAt self.now node.0 (guards_at round) result }
     {
         let entry = self.node(node);
         if entry.form.is_none() {

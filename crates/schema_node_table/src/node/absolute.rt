@@ -1,6 +1,6 @@
 //! Absolute locations: a URI, `#`, and a pointer as a URI fragment.
-ghost use Rattle.std.specs.Prelude.{◌≡◌, ◌++◌, ◌∷◌, option_map, string_bytes, drop, OnOk};
-ghost use Rattle.schema_traits.specs.Showing.{Shows};
+ghost use Rattle.std.specs.Prelude.{◌≡◌, ◌++◌, ◌∷◌, option_map, string_bytes, drop};
+ghost use Rattle.schema_reports.specs.Showing.{Adds, Shows};
 ghost use Rattle.theory_definitions.specs.Plan.{encoded};
 ghost use Rattle.schema_node_table.specs.NodeTable.{absolute_in};
 ghost use Rattle.schema_node_table.specs.NodeViews.{node_of};
@@ -35,7 +35,7 @@ const ESCAPED: AsciiSet = ascii_set!(
 
 // Appends bytes. Those that a URI fragment cannot hold are percent-encoded.
 fn push_encoded(text: &mut String, bytes: &[u8]) -> Result<(), OutOfMemory>
-    ensures encoded { OnOk result (string_bytes text.new ≡ string_bytes text.old ++ encoded bytes.now) }
+    ensures encoded { Adds result text.old text.new (encoded bytes.now) }
 {
     percent_encode(bytes, ESCAPED).append_to(text)
 }
@@ -56,7 +56,7 @@ fn bytes_from(bytes: &[u8], start: usize) -> &[u8]
 ///
 /// Out of memory.
 pub fn push_fragment(text: &mut String, pointer: &str, start: usize) -> Result<(), OutOfMemory>
-    ensures added { OnOk result (string_bytes text.new ≡ string_bytes text.old ++ (35 ∷ encoded (drop start pointer.now))) }
+    ensures added { Adds result text.old text.new (35 ∷ encoded (drop start pointer.now)) }
 {
     text.push('#')?;
     push_encoded(text, bytes_from(pointer.as_bytes(), start))

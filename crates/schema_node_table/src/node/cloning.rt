@@ -1,8 +1,7 @@
 //! Clones of node tables: each keyword is cloned, and all else is the same.
 ghost use Rattle.std.specs.Prelude.{◌≡◌, IfOk, length, map, option_map, string_bytes};
-ghost use Rattle.schema_traits.specs.Showing.{Shows};
 ghost use Rattle.serde_json.specs.View.{view};
-ghost use Rattle.schema_node_table.specs.Cloned.{shaped_node, shaped_nodes};
+ghost use Rattle.schema_node_table.specs.Cloned.{Copies, CopiesList, shaped_node, shaped_nodes};
 ghost use Rattle.schema_node_table.specs.NodeTable.{numbered, shaped, shaped_form, shaped_part};
 ghost use Rattle.schema_traits.specs.EdgeViews.{edge_of};
 ghost use Rattle.schema_node_table.specs.NodeViews.{entry_of, form_of, node_of, plan_of};
@@ -14,7 +13,7 @@ use serde_json::Value;
 use std::alloc::Global;
 
 fn clone_edge(edge: &Edge) -> Result<Edge, OutOfMemory>
-    ensures same { Shows edge_of result (edge_of edge.now) }
+    ensures same { Copies edge_of result edge.now }
 {
     Ok(Edge {
         node: edge.node,
@@ -24,7 +23,7 @@ fn clone_edge(edge: &Edge) -> Result<Edge, OutOfMemory>
 }
 
 fn clone_child(child: &Option<Edge>) -> Result<Option<Edge>, OutOfMemory>
-    ensures same { Shows (option_map edge_of) result (option_map edge_of child.now) }
+    ensures same { Copies (option_map edge_of) result child.now }
 {
     match child {
         Some(edge) => Ok(Some(clone_edge(edge)?)),
@@ -36,7 +35,7 @@ fn clone_children(
     alloc: Global,
     children: &[Option<Edge>],
 ) -> Result<Vec<Option<Edge>>, OutOfMemory>
-    ensures same { IfOk result (λ copies. map (option_map edge_of) copies.items ≡ map (option_map edge_of) children.now) }
+    ensures same { CopiesList (map (option_map edge_of)) result children.now }
 {
     let mut copies = Vec::with_capacity(alloc, children.len())?;
     for child in children {
@@ -49,7 +48,7 @@ fn clone_form<K: CloneKeyword>(
     alloc: Global,
     form: &EntryForm<K>,
 ) -> Result<EntryForm<K>, OutOfMemory>
-    ensures same { IfOk result (λ copy. shaped_form K.shape (form_of copy) ≡ shaped_form K.shape (form_of form.now)) }
+    ensures same { Copies (λ f. shaped_form K.shape (form_of f)) result form.now }
 {
     match form {
         EntryForm::Keyword(keyword, children) => Ok(EntryForm::Keyword(
@@ -61,7 +60,7 @@ fn clone_form<K: CloneKeyword>(
 }
 
 fn clone_entry<K: CloneKeyword>(alloc: Global, entry: &Entry<K>) -> Result<Entry<K>, OutOfMemory>
-    ensures same { IfOk result (λ copy. shaped_part K.shape (entry_of copy) ≡ shaped_part K.shape (entry_of entry.now)) }
+    ensures same { Copies (λ e. shaped_part K.shape (entry_of e)) result entry.now }
 {
     Ok(Entry {
         name: entry.name.clone()?,
@@ -75,8 +74,7 @@ fn clone_entries<K: CloneKeyword>(
     alloc: Global,
     entries: &[Entry<K>],
 ) -> Result<Vec<Entry<K>>, OutOfMemory>
-    ensures same { IfOk result (λ copies. map (shaped_part K.shape) (map entry_of copies.items)
-        ≡ map (shaped_part K.shape) (map entry_of entries.now)) }
+    ensures same { CopiesList (λ es. map (shaped_part K.shape) (map entry_of es)) result entries.now }
 {
     let mut copies = Vec::with_capacity(alloc, entries.len())?;
     for entry in entries {
@@ -89,7 +87,7 @@ fn clone_node_form<K: CloneKeyword>(
     alloc: Global,
     form: &NodeForm<K>,
 ) -> Result<NodeForm<K>, OutOfMemory>
-    ensures same { IfOk result (λ copy. shaped K.shape (plan_of copy) ≡ shaped K.shape (plan_of form.now)) }
+    ensures same { Copies (λ f. shaped K.shape (plan_of f)) result form.now }
 {
     match form {
         NodeForm::Always => Ok(NodeForm::Always),
@@ -105,8 +103,7 @@ fn clone_any_form<K: CloneKeyword>(
     alloc: Global,
     form: &Option<NodeForm<K>>,
 ) -> Result<Option<NodeForm<K>>, OutOfMemory>
-    ensures same { IfOk result (λ copy. option_map (shaped K.shape) (option_map plan_of copy)
-        ≡ option_map (shaped K.shape) (option_map plan_of form.now)) }
+    ensures same { Copies (λ f. option_map (shaped K.shape) (option_map plan_of f)) result form.now }
 {
     match form {
         Some(form) => Ok(Some(clone_node_form(alloc, form)?)),
@@ -115,7 +112,7 @@ fn clone_any_form<K: CloneKeyword>(
 }
 
 fn clone_base(base: &Option<String>) -> Result<Option<String>, OutOfMemory>
-    ensures same { Shows (option_map string_bytes) result (option_map string_bytes base.now) }
+    ensures same { Copies (option_map string_bytes) result base.now }
 {
     match base {
         Some(uri) => Ok(Some(uri.clone()?)),
@@ -124,7 +121,7 @@ fn clone_base(base: &Option<String>) -> Result<Option<String>, OutOfMemory>
 }
 
 fn clone_annotations(annotations: &Option<Value>) -> Result<Option<Value>, OutOfMemory>
-    ensures same { Shows (option_map view) result (option_map view annotations.now) }
+    ensures same { Copies (option_map view) result annotations.now }
 {
     match annotations {
         Some(members) => Ok(Some(members.clone()?)),
@@ -133,7 +130,7 @@ fn clone_annotations(annotations: &Option<Value>) -> Result<Option<Value>, OutOf
 }
 
 fn clone_node<K: CloneKeyword>(alloc: Global, node: &Node<K>) -> Result<Node<K>, OutOfMemory>
-    ensures same { IfOk result (λ copy. shaped_node K.shape (node_of copy) ≡ shaped_node K.shape (node_of node.now)) }
+    ensures same { Copies (λ n. shaped_node K.shape (node_of n)) result node.now }
 {
     Ok(Node {
         location: node.location.clone()?,
@@ -151,7 +148,7 @@ fn clone_nodes<K: CloneKeyword>(
     alloc: Global,
     nodes: &[Node<K>],
 ) -> Result<Vec<Node<K>>, OutOfMemory>
-    ensures same { IfOk result (λ copies. shaped_nodes K.shape (map node_of copies.items) ≡ shaped_nodes K.shape (map node_of nodes.now)) }
+    ensures same { CopiesList (λ ns. shaped_nodes K.shape (map node_of ns)) result nodes.now }
 {
     let mut copies = Vec::with_capacity(alloc, nodes.len())?;
     for node in nodes {
@@ -176,9 +173,9 @@ impl<K: CloneKeyword> Nodes<K> {
     ///
     /// Out of memory.
     pub fn clone(&self, alloc: Global) -> Result<Nodes<K>, OutOfMemory>
-        ensures count { Shows length result (length self.now) }
-        ensures nodes { Shows (shaped_nodes K.shape) result (shaped_nodes K.shape self.now) }
-        ensures numbered { Shows (numbered K.shape) result (numbered K.shape self.now) }
+        ensures count { Copies length result self.now }
+        ensures nodes { Copies (shaped_nodes K.shape) result self.now }
+        ensures numbered { Copies (numbered K.shape) result self.now }
     {
         let weights = clone_weights(&self.weights)?;
         Ok(Nodes {

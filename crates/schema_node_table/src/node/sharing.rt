@@ -5,12 +5,11 @@
 //! progress there, so its verdict may be kept for the whole run. Lighter numbers are not shared,
 //! because numbering the places would cost more than evaluating them again.
 ghost use Rattle.std.specs.List.{list_all};
-ghost use Rattle.std.specs.Prelude.{◌≡◌, ◌≤◌, ℕ, IfOk, Option, Some, nat_le, option_map, slice_index_or, true};
+ghost use Rattle.std.specs.Prelude.{◌≡◌, ◌≤◌, ℕ, IfOk, Option, nat_le, option_map, slice_index_or, true};
 ghost use Rattle.schema_traits.specs.EdgeViews.{edge_of};
 ghost use Rattle.schema_node_table.specs.ClosedNumbers.{AreClosed, AreWeighed, ReachesNoGuard, child_closes, edge_closes, edges_in};
-ghost use Rattle.schema_node_table.specs.ClosedNumbers.{form_closes, has_weight, plan_closes};
-ghost use Rattle.schema_node_table.specs.NodeTable.{plan_in};
-ghost use Rattle.schema_node_table.specs.NodeViews.{form_of, node_of};
+ghost use Rattle.schema_node_table.specs.ClosedNumbers.{form_closes, has_weight, node_closes};
+ghost use Rattle.schema_node_table.specs.NodeViews.{form_of};
 ghost use Rattle.schema_node_table.specs.declared.node.Entry.{Entry};
 ghost use Rattle.schema_traits.specs.declared.numbers.Edge.{Edge};
 
@@ -73,7 +72,7 @@ fn entries_close<K: Drop>(entries: &[Entry<K>], weights: &[u8]) -> bool
 }
 
 fn node_closes<K: Drop>(node: &Node<K>, weights: &[u8]) -> bool
-    ensures closes { result ≡ plan_closes (has_weight weights.now) (plan_in (Some (node_of node.now))) }
+    ensures closes { result ≡ node_closes weights.now node.now }
 {
     match &node.form {
         None => true,
@@ -125,7 +124,7 @@ fn weight_below<K: Drop>(node: &Node<K>, weights: &[u8]) -> u8 {
 // The weight of a node: one more than the sum of the weights that its edges lead to; 0 if one of
 // these is guarded or leads to a number without a weight.
 fn node_weight<K: Drop>(node: &Node<K>, weights: &[u8]) -> u8
-    ensures closes { 1 ≤ result → plan_closes (has_weight weights.now) (plan_in (Some (node_of node.now))) ≡ true }
+    ensures closes { 1 ≤ result → node_closes weights.now node.now ≡ true }
 {
     if !node_closes(node, weights) {
         return 0;
@@ -136,7 +135,7 @@ fn node_weight<K: Drop>(node: &Node<K>, weights: &[u8]) -> u8
 // The weight that a node has already, or else the one that it can get now.
 fn next_weight<K: Drop>(node: &Node<K>, weights: &[u8], weight: u8) -> u8
     ensures kept { 1 ≤ weight → result ≡ weight }
-    ensures closes { weight ≡ 0 → 1 ≤ result → plan_closes (has_weight weights.now) (plan_in (Some (node_of node.now))) ≡ true }
+    ensures closes { weight ≡ 0 → 1 ≤ result → node_closes weights.now node.now ≡ true }
 {
     if 1 <= weight {
         return weight;
