@@ -1,26 +1,30 @@
 -- The schema at a context: its key, and what the definitions say of it, given the resolver's
 -- results.
-use Rattle.std.specs.Prelude.{Bool, List, Option, Result, Some, String, [], false, if◌then◌else◌, is_some, string_bytes, ℕ, ◌∷◌, ◌≡◌}
+use Rattle.std.specs.Prelude.{Bool, List, None, Option, Result, Some, String, [], codes, false, if◌then◌else◌, is_some, string_bytes, unwrap_or, ℕ, ◌||◌, ◌∷◌, ◌≡◌}
+use Rattle.std.proofs.Common.{Bor}
 use Rattle.std.specs.declared.alloc.Global.{Global}
-use Rattle.serde_json.specs.Data.{object}
+use Rattle.serde_json.specs.Data.{Data, object}
 use Rattle.serde_json.specs.View.{members_view}
 use Rattle.serde_json.specs.declared.value.Value.{Value}
-use Rattle.theory_definitions.specs.Instance.{Place, Text}
+use Rattle.theory_definitions.specs.Instance.{Place, Text, member_of}
 use Rattle.theory_definitions.specs.Pointer.{joined, pointer_to}
-use Rattle.theory_definitions.specs.Drafts.{Draft, SchemaPlace, Vocabularies, at_path, same_draft}
+use Rattle.theory_definitions.specs.Drafts.{Draft, SchemaPlace, Vocabularies, at_path, ref_stands_alone, same_draft}
 use Rattle.theory_definitions.specs.Resolving.{Found, Resolver}
 use Rattle.theory_definitions.specs.Making.{compile}
 use Rattle.theory_definitions.specs.Parts.{Parts}
 use Rattle.theory_definitions.specs.Plan.{Key, Reference, absolute_of, found, inside, location_by, looked_up, referred_at, resolved, schema_at, start_by, subschema, without_prefix}
 use Rattle.theory_meaning.specs.Refusals.{lookup_causes, reference_not_text, request_causes}
 use Rattle.schema_drafts.specs.KeywordViews.{draft_of}
-use Rattle.schema_traits.specs.ResolverViews.{found_of, place_of}
+use Rattle.schema_drafts.specs.declared.keywords.drafts.Draft as code_draft
+use Rattle.schema_traits.specs.ResolverViews.{IsReadAt, found_of, place_of}
 use Rattle.schema_traits.specs.declared.resolver.Resolver.{Ghosts as ResolverMembers}
 use Rattle.schema_traits.specs.declared.resolver.Target.{Target}
 use Rattle.schema_traits.specs.declared.schema_place.SchemaPlace as code
 use Rattle.schema_keys.specs.Alone.{key_alone}
 use Rattle.schema_keys.specs.Compiling.{resolving_parts}
+use Rattle.schema_keys.specs.Dialects.{asserts_formats}
 use Rattle.schema_keys.specs.KeyViews.{key_of}
+use Rattle.schema_keys.specs.Readings.{read_value}
 use Rattle.schema_keys.specs.Referring.{IsReferredBy, LeadsBy, referred_by}
 use Rattle.schema_keys.specs.Refusing.{Names}
 use Rattle.schema_keys.specs.ShownBases.{shown_base}
@@ -36,6 +40,15 @@ module _ {A P S : Type 0} (c : Context A P S) where
   -- the place of the context's schema
   abbrev pub place_here : SchemaPlace
   place_here = place_of c.key.now.place
+
+  -- the value of a `$ref` that overrides its siblings, if these members have one
+  abbrev pub lone_reference : List (String Global × Value) → Option Data
+  lone_reference members = if ref_stands_alone draft_here then member_of (codes "$ref") (members_view members) else None
+
+  -- whether formats are validated: as the option says; if it is not set, as the draft and the
+  -- vocabularies say
+  abbrev pub validates_formats : Bool
+  validates_formats = unwrap_or c.options.now.formats (ref_stands_alone draft_here || asserts_formats c.key.now.vocabularies)
 
   -- the place lies at this path below the context's schema
   abbrev pub LiesBelow : Place → code.SchemaPlace → Type 0
@@ -53,6 +66,18 @@ module _ {A P S : Type 0} (r : ResolverMembers A P S) (c : Context A P S) where
 
   abbrev pub parts_here : Parts S (Unit {0}) (Unit {0})
   parts_here = resolving_parts resolver_here
+
+  -- the draft of a value in a schema of this draft
+  abbrev pub detected_here : code_draft.Draft → Option (Bor Value) → Draft
+  detected_here draft value = resolver_here.detect (draft_of draft) (read_value value)
+
+  -- whether a value has an identifier in this draft
+  abbrev pub has_identifier_here : code_draft.Draft → Option (Bor Value) → Bool
+  has_identifier_here draft value = is_some (resolver_here.id (draft_of draft) (read_value value))
+
+  -- this is the value that the resolver has at the place
+  abbrev pub IsReadHere : code.SchemaPlace → Option (Bor Value) → Type 0
+  IsReadHere place value = IsReadAt resolver_here place value
 
   -- the key of the context's schema
   abbrev pub key_here : Key S
@@ -83,6 +108,10 @@ module _ {A P S : Type 0} (r : ResolverMembers A P S) (c : Context A P S) where
   -- the resolver's result for a text
   abbrev pub looks_up : Bool → Text → Result (Found S) Text
   looks_up dynamic text = looked_up parts_here key_here dynamic text
+
+  -- the resolver's result for a recursive reference
+  abbrev pub looks_up_recursive : Result (Found S) Text
+  looks_up_recursive = resolver_here.lookup_recursive (r.point c.key.now.state)
 
   -- the targets of a reference are reached by this URI
   abbrev pub RefersBy : Reference → Text → String Global → Type 0

@@ -9,12 +9,10 @@ ghost use Rattle.serde_json.specs.View.{view};
 ghost use Rattle.theory_definitions.specs.Plan.{schema_at};
 ghost use Rattle.theory_meaning.specs.Documents as documents;
 ghost use Rattle.schema_drafts.specs.KeywordViews.{draft_of};
-ghost use Rattle.schema_reports.specs.Owned.{prefixed};
 ghost use Rattle.schema_reports.specs.ReportViews.{owned_error_of};
 ghost use Rattle.schema_traits.specs.ResolverViews.{place_of};
 ghost use Rattle.schema_keys.specs.Checking.{AcceptsSchema, RefusesSchema, IsVerdict};
-ghost use Rattle.schema_keys.specs.Checking.{location_from};
-ghost use Rattle.schema_keys.specs.CheckHere.{parts_asked, masked_at, AcceptsOwn};
+ghost use Rattle.schema_keys.specs.CheckHere.{located, parts_asked, masked_at, AcceptsOwn};
 ghost use Rattle.schema_keys.specs.CheckHere.{RefusesOwn, AcceptsAll, RefusesFirst};
 ghost use Rattle.schema_traits.specs.Showing.{Shows};
 
@@ -112,8 +110,7 @@ impl<'p, R: Resolver, V: MetaValidators> SchemaCheck<'p, R, V> {
 
     /// Returns an error of the document at a place, relative to the root.
     fn locate(&self, place: &SchemaPlace, error: OwnedError) -> Result<OwnedError, OutOfMemory>
-        ensures located { Shows owned_error_of result
-            (prefixed (location_from (place_of self.now.root.now) (place_of place.now)) (owned_error_of error)) }
+        ensures located { Shows owned_error_of result (located self.now place.now error) }
     {
         let below = place.path.after(self.alloc, self.root.path.len())?;
         error.with_instance_path_prefix(&below.pointer(self.alloc)?)

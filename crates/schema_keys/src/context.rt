@@ -2,11 +2,8 @@
 //!
 //! This module has its draft, its vocabularies and its location, and what follows from them.
 //! References are in `references`, subschemas in `subschema`.
-ghost use Rattle.std.specs.Prelude.{◌≡◌, ◌||◌, ◌++◌, ◌∷◌, None, IfOk};
-ghost use Rattle.std.specs.Prelude.{IfSome, drop, not, unwrap_or, option_map, codes};
-ghost use Rattle.std.specs.Prelude.{string_bytes, if◌then◌else◌};
-ghost use Rattle.serde_json.specs.View.{view, members_view};
-ghost use Rattle.theory_definitions.specs.Instance.{member_of};
+ghost use Rattle.std.specs.Prelude.{◌≡◌, ◌++◌, ◌∷◌, IfOk};
+ghost use Rattle.std.specs.Prelude.{IfSome, drop, not, option_map, string_bytes};
 ghost use Rattle.theory_definitions.specs.Pointer.{joined};
 ghost use Rattle.theory_definitions.specs.Drafts.{ref_stands_alone};
 ghost use Rattle.schema_drafts.specs.KeywordTable.{is_in_force};
@@ -14,7 +11,8 @@ ghost use Rattle.schema_drafts.specs.KeywordViews.{builtin_text, vocabulary_of};
 ghost use Rattle.theory_definitions.specs.Plan.{encoded};
 ghost use Rattle.schema_keys.specs.Builtins.{builtin, row_of};
 ghost use Rattle.schema_keys.specs.Dialects.{asserts_formats, integer_valued_numbers};
-ghost use Rattle.schema_keys.specs.Here.{draft_here, base_here, absolute_here};
+ghost use Rattle.schema_keys.specs.Here.{draft_here, base_here, absolute_here, lone_reference, validates_formats};
+ghost use Rattle.schema_traits.specs.Readings.{value_read};
 ghost use Rattle.schema_traits.specs.Showing.{Yields, Shows};
 ghost use Rattle.schema_keys.specs.Showing.{IsRest};
 
@@ -91,7 +89,7 @@ impl<'p, 'c, R: Resolver> Context<'p, 'c, R> {
         self.location().join(LocationSegment::Property(name))
     }
 
-    /// Returns the rest of the schema's location after the last reference's part.
+    /// Returns the schema's location after the part of the last reference.
     ///
     /// `None` if the location does not begin with that part.
     pub fn suffix(&self) -> Option<&str>
@@ -189,10 +187,9 @@ impl<'p, 'c, R: Resolver> Context<'p, 'c, R> {
         !self.key.draft.is_before_2019_09()
     }
 
-    /// Returns the value of a `$ref` that overrides its siblings, if there is one.
+    /// Returns the value of a `$ref` that overrides its siblings, if any.
     pub fn lone_reference<'v>(&self, members: &'v Map<String, Value>) -> Option<&'v Value>
-        ensures alone { option_map (λ v. view v.now) result ≡ (if ref_stands_alone (draft_here self.now) then
-            member_of (codes "$ref") (members_view members.now.entries) else None) }
+        ensures alone { value_read result ≡ lone_reference self.now members.now.entries }
     {
         if self.supports_adjacent_validation() {
             None
@@ -211,7 +208,7 @@ impl<'p, 'c, R: Resolver> Context<'p, 'c, R> {
         }
     }
 
-    /// Returns whether the schema's vocabularies require formats to be validated.
+    /// Returns whether the schema's vocabularies require format validation.
     pub fn asserts_formats_by_dialect(&self) -> bool
         ensures asserts { result ≡ asserts_formats self.now.key.now.vocabularies }
     {
@@ -225,8 +222,7 @@ impl<'p, 'c, R: Resolver> Context<'p, 'c, R> {
     /// If the option is not set, they are in the drafts in which `$ref` overrides its siblings, and
     /// in later ones if the schema's vocabularies require it.
     pub fn validates_formats_by_default(&self) -> bool
-        ensures formats { result ≡ unwrap_or self.now.options.now.formats
-            (ref_stands_alone (draft_here self.now) || asserts_formats self.now.key.now.vocabularies) }
+        ensures formats { result ≡ validates_formats self.now }
     {
         match self.options.formats {
             Some(checked) => checked,

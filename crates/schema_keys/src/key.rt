@@ -1,7 +1,7 @@
 //! Keys, which nodes are compiled for, and their comparison.
 //!
-//! The holders of a key share it. A copy would copy the key's place and location, which are as long
-//! as the schema is deep.
+//! The holders of a key share it instead of copying it, because its place and its location are as
+//! long as the schema is deep.
 ghost use Rattle.std.specs.Prelude.{◌≡◌, ◌↔◌, IsTrue};
 ghost use Rattle.schema_keys.specs.KeyViews.{key_of};
 

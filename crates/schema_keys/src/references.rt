@@ -1,7 +1,7 @@
 //! References: where they lead, and the keys of their targets.
 //!
-//! An empty reference is read as `#`, so a resolver never gets an empty text. A reference is resolved
-//! before its key is looked up, because the fragment of its URI gives the place of the target.
+//! An empty reference counts as `#`, so a resolver never gets an empty text. A `$ref` or a
+//! `$dynamicRef` is also resolved to a URI, because a pointer in it is the target's location.
 ghost use Rattle.std.specs.Prelude.{◌≡◌, IfOk, IfErr, Ok, not, option_map, string_bytes};
 ghost use Rattle.std.specs.Str.Lossy.{utf8_lossy};
 ghost use Rattle.percent_encoding.specs.Percent.{percent_decode};
@@ -13,7 +13,7 @@ ghost use Rattle.schema_traits.specs.ResolverViews.{found_of, place_of};
 ghost use Rattle.schema_keys.specs.KeyViews.{key_of, kind_of};
 ghost use Rattle.schema_keys.specs.Compiling.{skips};
 ghost use Rattle.schema_keys.specs.Referring.{by_flag};
-ghost use Rattle.schema_keys.specs.Here.{place_here, resolver_here, resolves, finds, looks_up, RefersBy, RefusesReference};
+ghost use Rattle.schema_keys.specs.Here.{place_here, resolves, finds, looks_up, looks_up_recursive, RefersBy, RefusesReference};
 ghost use Rattle.schema_keys.specs.Here.{LeadsTo, path_in_resource, target_location, target_start, target_key, target_key_at};
 ghost use Rattle.schema_traits.specs.Showing.{Yields, Shows, Agrees};
 
@@ -39,7 +39,9 @@ pub enum ReferenceKind {
 }
 
 impl ReferenceKind {
-    /// Returns whether targets of this kind nest: those of `$recursiveRef` do not.
+    /// Returns whether targets of this kind nest.
+    ///
+    /// Those of `$recursiveRef` do not.
     pub fn nests(self) -> bool
         ensures nests { result ≡ not (is_recursive_ref (kind_of self)) }
     {
@@ -47,7 +49,9 @@ impl ReferenceKind {
     }
 }
 
-/// Returns the kind of a keyword that is a reference; `None` for any other keyword.
+/// Returns the kind of a keyword that is a reference.
+///
+/// `None` for any other keyword.
 #[tactic(auto, using(crate::proofs::OtherNames::not_ref, crate::proofs::OtherNames::not_dynamic_ref, crate::proofs::OtherNames::not_recursive_ref))]
 pub fn reference_kind(keyword: BuiltinKeyword) -> Option<ReferenceKind>
     ensures kind { option_map kind_of result ≡ reference_named (builtin_text keyword) }
@@ -123,8 +127,7 @@ impl<'p, 'c, R: Resolver> Context<'p, 'c, R> {
     ///
     /// The resolver's refusal of the reference, or out of memory.
     pub fn lookup_recursive_reference(&self) -> Result<Target<R::State>, LookupError>
-        ensures found { Agrees (found_of R.point) result
-            ((resolver_here R.Resolver self.now).lookup_recursive (R.point self.now.key.now.state)) }
+        ensures found { Agrees (found_of R.point) result (looks_up_recursive R.Resolver self.now) }
     {
         self.resolver
             .lookup_recursive_ref(self.alloc, &self.key.state)
@@ -179,9 +182,9 @@ impl<'p, 'c, R: Resolver> Context<'p, 'c, R> {
         }
     }
 
-    /// Returns the location in its resource of a target that is referred to by name.
+    /// Returns the location of a target that is referred to by name.
     ///
-    /// It is the target's path below the resource's root.
+    /// It is the target's path below the root of its resource.
     ///
     /// # Errors
     ///

@@ -1,8 +1,8 @@
 //! The part of a pointer that lies outside the resource of its target.
 //!
 //! It is computed from the depth of the target's resource root, which the resolver's state knows.
-//! No draft and no list of subresources is used for it, because that would read a draft 4 document
-//! by `$id`.
+//! It does not depend on a draft or on a list of subresources, because these would make it read a
+//! draft 4 document by `$id`.
 ghost use Rattle.std.specs.Prelude.{◌≡◌};
 ghost use Rattle.theory_definitions.specs.Plan.{lies_in, resource_depth, segment_count, segments_length, start_of};
 ghost use Rattle.schema_traits.specs.ResolverViews.{found_of, place_of};

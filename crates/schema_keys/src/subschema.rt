@@ -1,15 +1,14 @@
 //! The keys of subschemas.
 ghost use Rattle.std.specs.Prelude.{◌≡◌, IfOk, IfErr};
-ghost use Rattle.std.specs.Prelude.{Some, is_some};
+ghost use Rattle.std.specs.Prelude.{Some};
 ghost use Rattle.theory_definitions.specs.Pointer.{pointer_to};
 ghost use Rattle.schema_drafts.specs.KeywordViews.{draft_of};
-ghost use Rattle.schema_traits.specs.ResolverViews.{IsReadAt, place_of};
+ghost use Rattle.schema_traits.specs.ResolverViews.{place_of};
 ghost use Rattle.schema_keys.specs.KeyViews.{key_of};
 ghost use Rattle.schema_keys.specs.Alone.{RefusesKeyAlone};
-ghost use Rattle.schema_keys.specs.Here.{LiesBelow, resolver_here, HasMembers, enters, vocabularies_at};
+ghost use Rattle.schema_keys.specs.Here.{IsReadHere, LiesBelow, HasMembers, detected_here, has_identifier_here, enters, vocabularies_at};
 ghost use Rattle.schema_keys.specs.Here.{is_identified_at, key_inside, IsSubschemaKey, key_by_itself, RefusesSubschema};
 ghost use Rattle.schema_traits.specs.Showing.{Yields, Agrees};
-ghost use Rattle.schema_keys.specs.Readings.{read_value};
 
 use crate::context::Context;
 use crate::error::BuildError;
@@ -32,7 +31,7 @@ pub struct Subschema<'p, S> {
 impl<'p, 'c, R: Resolver> Context<'p, 'c, R> {
     /// Returns whether a value that was read has an identifier.
     pub(crate) fn identifies(&self, draft: Draft, value: Option<&Value>) -> bool
-        ensures identified { result ≡ is_some ((resolver_here R.Resolver self.now).id (draft_of draft) (read_value value.entry)) }
+        ensures identified { result ≡ has_identifier_here R.Resolver self.now draft value.entry }
     {
         match value {
             Some(value) => self.resolver.id(draft, value).is_some(),
@@ -44,7 +43,7 @@ impl<'p, 'c, R: Resolver> Context<'p, 'c, R> {
     ///
     /// A missing value counts as null.
     pub(crate) fn detect(&self, draft: Draft, value: Option<&Value>) -> Draft
-        ensures detected { draft_of result ≡ (resolver_here R.Resolver self.now).detect (draft_of draft) (read_value value.entry) }
+        ensures detected { draft_of result ≡ detected_here R.Resolver self.now draft value.entry }
     {
         match value {
             Some(value) => self.resolver.detect(draft, value),
@@ -106,7 +105,7 @@ impl<'p, 'c, R: Resolver> Context<'p, 'c, R> {
     ) -> Option<&'p Value>
         requires object { HasMembers R.Resolver self.now members.now.entries }
         requires below { LiesBelow self.now path.now place.now }
-        ensures read { IsReadAt (resolver_here R.Resolver self.now) place.now result }
+        ensures read { IsReadHere R.Resolver self.now place.now result }
     {
         self.resolver.value_below(members, path, place)
     }
@@ -117,7 +116,7 @@ impl<'p, 'c, R: Resolver> Context<'p, 'c, R> {
         place: &SchemaPlace,
         value: Option<&Value>,
     ) -> Result<R::State, LookupError>
-        requires read { IsReadAt (resolver_here R.Resolver self.now) place.now value }
+        requires read { IsReadHere R.Resolver self.now place.now value }
         ensures inside { Agrees R.point result (enters R.Resolver self.now (draft_of draft) (place_of place.now)) }
     {
         self.resolver
@@ -139,7 +138,7 @@ impl<'p, 'c, R: Resolver> Context<'p, 'c, R> {
         requires object { HasMembers R.Resolver self.now members.now.entries }
         ensures below { IfOk result (λ s. IsSubschemaKey R.Resolver self.now path.now s.key) }
         ensures pointer { IfOk result (λ s. s.pointer ≡ pointer_to path.now) }
-        ensures read { IfOk result (λ s. IsReadAt (resolver_here R.Resolver self.now) s.key.place s.value) }
+        ensures read { IfOk result (λ s. IsReadHere R.Resolver self.now s.key.place s.value) }
         ensures refused { IfErr result (RefusesSubschema R.Resolver self.now path.now) }
     {
         let place = self.key.place.below(self.alloc, path)?;
@@ -162,7 +161,7 @@ impl<'p, 'c, R: Resolver> Context<'p, 'c, R> {
 
     /// Returns the key of the subschema at a path, to be compiled by itself.
     ///
-    /// Its location is empty, and no part of that lies outside its resource.
+    /// Its location is empty, so no part of it lies outside its resource.
     ///
     /// # Errors
     ///

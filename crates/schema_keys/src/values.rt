@@ -1,12 +1,12 @@
 //! The value at a key's place, and the text of a reference.
-ghost use Rattle.std.specs.Prelude.{◌≡◌, ◌∷◌, [], Bool, IfErr, IfOk, None, Some, option_map, string_bytes, OnErr};
+ghost use Rattle.std.specs.Prelude.{◌≡◌, ◌∷◌, [], IfErr, IfOk, None, option_map, string_bytes, OnErr};
 ghost use Rattle.serde_json.specs.Data.{string};
 ghost use Rattle.serde_json.specs.Find.{as_bool, as_object, as_str};
 ghost use Rattle.serde_json.specs.View.{view, members_view};
 ghost use Rattle.theory_meaning.specs.Refusals.{not_a_schema};
 ghost use Rattle.schema_node_table.specs.NodeViews.{boolean_plan, plan_of};
 ghost use Rattle.schema_traits.specs.ResolverViews.{IsReadAt, place_of};
-ghost use Rattle.schema_keys.specs.Readings.{IsReading, read_value};
+ghost use Rattle.schema_keys.specs.Readings.{IsBooleanForm, IsReading, read_value};
 ghost use Rattle.schema_keys.specs.Refusing.{Names};
 ghost use Rattle.schema_keys.specs.Here.{RefusesText};
 
@@ -54,7 +54,7 @@ impl<'p, 'c, R: Resolver> Context<'p, 'c, R> {
     ///
     /// Of these values, only a boolean is a schema.
     pub fn plain_form<K: Drop>(&self, value: Option<&Value>) -> Result<NodeForm<K>, BuildError>
-        ensures form { IfOk result (λ form. (b : Bool) × (as_bool (read_value value.entry) ≡ Some b) × (plan_of form ≡ boolean_plan b)) }
+        ensures form { IfOk result (IsBooleanForm value.entry) }
         ensures refused { IfErr result (Names (not_a_schema self.now.key.now.location ∷ [])) }
         ensures other { OnErr result (as_bool (read_value value.entry) ≡ None) }
     {

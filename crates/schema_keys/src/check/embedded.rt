@@ -1,12 +1,10 @@
 //! The embedded resources of a document.
-ghost use Rattle.std.specs.Prelude.{◌≡◌, ◌<◌, ◌++◌, ℕ, is_some, map, suc, OnOk};
-ghost use Rattle.theory_meaning.specs.Documents.{embedded};
+ghost use Rattle.std.specs.Prelude.{◌≡◌, map, OnOk};
 ghost use Rattle.schema_drafts.specs.KeywordViews.{draft_of};
 ghost use Rattle.schema_keys.specs.CutViews.{cut_of};
-ghost use Rattle.schema_keys.specs.CheckHere.{parts_asked, depth_at, cuts_at};
+ghost use Rattle.schema_keys.specs.CheckHere.{AddsCuts, all_cuts_at, has_identifier, is_own_resource, own_draft};
 ghost use Rattle.schema_traits.specs.Showing.{Shows};
 ghost use Rattle.schema_traits.specs.ResolverViews.{IsReadAt};
-ghost use Rattle.schema_keys.specs.Readings.{read_value};
 
 use crate::check::SchemaCheck;
 use schema_drafts::Draft;
@@ -26,7 +24,7 @@ impl<'p, R: Resolver, V: MetaValidators> SchemaCheck<'p, R, V> {
     ///
     /// A missing value counts as null.
     fn own_draft(&self, draft: Draft, schema: Option<&Value>) -> Draft
-        ensures own { draft_of result ≡ (R.resolving self.now.resolver.now).detect (draft_of draft) (read_value schema.entry) }
+        ensures own { draft_of result ≡ own_draft R.Resolver self.now draft schema.entry }
     {
         match schema {
             Some(schema) => self.resolver.detect(draft, schema),
@@ -38,7 +36,7 @@ impl<'p, R: Resolver, V: MetaValidators> SchemaCheck<'p, R, V> {
     ///
     /// A missing value counts as null.
     fn has_identifier(&self, draft: Draft, schema: Option<&Value>) -> bool
-        ensures identified { result ≡ is_some ((R.resolving self.now.resolver.now).id (draft_of draft) (read_value schema.entry)) }
+        ensures identified { result ≡ has_identifier R.Resolver self.now draft schema.entry }
     {
         match schema {
             Some(schema) => self.resolver.id(draft, schema).is_some(),
@@ -57,8 +55,7 @@ impl<'p, R: Resolver, V: MetaValidators> SchemaCheck<'p, R, V> {
         own: Draft,
         schema: Option<&Value>,
     ) -> bool
-        ensures embedded { result ≡ embedded (parts_asked R.Resolver self.now) (draft_of document) (draft_of around)
-            (draft_of own) (read_value schema.entry) }
+        ensures embedded { result ≡ is_own_resource R.Resolver self.now document around own schema.entry }
     {
         own != document
             && own != Draft::Unknown
@@ -75,8 +72,7 @@ impl<'p, R: Resolver, V: MetaValidators> SchemaCheck<'p, R, V> {
         cuts: &mut Vec<Cut>,
     ) -> Result<(), OutOfMemory>
         requires read { IsReadAt (R.resolving self.now.resolver.now) place.now schema }
-        ensures found { OnOk result ((n : ℕ) → depth_at R.Resolver self.now place.now < n →
-            map cut_of cuts.new.items ≡ map cut_of cuts.old.items ++ cuts_at R.Resolver self.now n document draft place.now) }
+        ensures found { OnOk result (AddsCuts R.Resolver self.now document draft place.now cuts.old.items cuts.new.items) }
     {
         for below in &self
             .resolver
@@ -97,8 +93,7 @@ impl<'p, R: Resolver, V: MetaValidators> SchemaCheck<'p, R, V> {
     ///
     /// Searches for them only if a draft may change below it.
     pub(crate) fn cuts(&self, draft: Draft, place: &SchemaPlace) -> Result<Vec<Cut>, OutOfMemory>
-        ensures cuts { Shows (λ v. map cut_of v.items) result
-            (cuts_at R.Resolver self.now (suc (depth_at R.Resolver self.now place.now)) draft draft place.now) }
+        ensures cuts { Shows (λ v. map cut_of v.items) result (all_cuts_at R.Resolver self.now draft place.now) }
     {
         let mut cuts = Vec::new(self.alloc);
         let schema = self.resolver.value(place);

@@ -1,11 +1,10 @@
 //! The copy of a document with `{}` in place of its embedded resources.
-ghost use Rattle.std.specs.Prelude.{◌≡◌, ◌∷◌, [], IfOk, if◌then◌else◌};
-ghost use Rattle.serde_json.specs.Data.{no_members, object};
+ghost use Rattle.std.specs.Prelude.{◌≡◌, ◌∷◌, [], IfOk};
 ghost use Rattle.serde_json.specs.View.{items_view, members_view, view};
 ghost use Rattle.theory_definitions.specs.Drafts.{at_path};
 ghost use Rattle.schema_traits.specs.ResolverViews.{place_of};
 ghost use Rattle.schema_traits.specs.SchemaViews.{schema_step_of};
-ghost use Rattle.schema_keys.specs.CheckHere.{is_cut_out, masked_at, masked_items_at, masked_members_at};
+ghost use Rattle.schema_keys.specs.CheckHere.{is_cut_out, masked_at, masked_below_at, masked_items_at, masked_members_at};
 ghost use Rattle.schema_traits.specs.Showing.{Shows};
 
 use crate::check::SchemaCheck;
@@ -100,8 +99,7 @@ impl<'p, R: Resolver, V: MetaValidators> SchemaCheck<'p, R, V> {
         place: &SchemaPlace,
         value: &Value,
     ) -> Result<Value, OutOfMemory>
-        ensures masked { Shows view result (if is_cut_out R.Resolver self.now cuts.now place.now then
-            object no_members else masked_at R.Resolver self.now cuts.now place.now value.now) }
+        ensures masked { Shows view result (masked_below_at R.Resolver self.now cuts.now place.now value.now) }
     {
         if self.is_cut(cuts, place) {
             Ok(Value::Object(Map::new(self.alloc)))
