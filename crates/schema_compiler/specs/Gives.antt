@@ -1,14 +1,17 @@
 -- The results of the compiler's functions, one definition each: what was made and found, or why it
 -- is refused.
-use Rattle.std.specs.Prelude.{Bool, List, MatchResult, Option, Result, String, map, option_map, string_bytes, ℕ, ◌++◌, ◌≡◌}
+use Rattle.std.specs.Prelude.{Bool, List, MatchResult, Option, Result, String, if◌then◌else◌, map, option_map, string_bytes, ℕ, ◌++◌, ◌≡◌}
 use Rattle.std.specs.declared.alloc.Global.{Global}
+use Rattle.serde_json.specs.Data.{put}
 use Rattle.serde_json.specs.View.{members_view, view}
 use Rattle.serde_json.specs.declared.value.Value.{Value}
 use Rattle.theory_definitions.specs.Instance.{Place, Text}
 use Rattle.theory_definitions.specs.Making.{Script}
 use Rattle.theory_definitions.specs.Plan.{Key, Reference, checks_formats}
+use Rattle.theory_definitions.specs.Resolving.{Resolver}
 use Rattle.schema_drafts.specs.KeywordViews.{draft_of}
 use Rattle.schema_traits.specs.EdgeViews.{edge_of}
+use Rattle.schema_traits.specs.MakerViews.{is_own}
 use Rattle.schema_traits.specs.ResolverViews.{place_of}
 use Rattle.schema_traits.specs.declared.keyword.Validate.{Ghosts as KeywordMembers}
 use Rattle.schema_traits.specs.declared.resolver.Resolver.{Ghosts as ResolverMembers}
@@ -33,6 +36,7 @@ use Rattle.schema_compiler.specs.declared.compiler.ObjectKeywords.{ObjectKeyword
 use Rattle.schema_compiler.specs.declared.compiler.compilation.Compilation.{Compilation}
 use Rattle.schema_compiler.specs.declared.compiler.compilation.PlannedNode.{PlannedNode}
 use Rattle.schema_compiler.specs.declared.compiler.setup.Compiler.{Compiler}
+use Rattle.schema_compiler.specs.declared.compiler.entries.EntryHead.{EntryHead}
 
 -- the members of an object of the program
 abbrev pub Entries : Type 0
@@ -41,6 +45,11 @@ Entries = List (String Global × Value)
 -- these names are appended to those that were absorbed before
 abbrev pub Absorbs : List (String Global) → List (String Global) → List Text → Type 0
 Absorbs old new names = map string_bytes new ≡ map string_bytes old ++ names
+
+-- a member is stored, unless the key's draft knows its name
+abbrev pub KeepsUnknown : {P S : Type 0} → Resolver S → SchemaKey P → String Global → Value → Entries → Entries → Type 0
+KeepsUnknown resolver key name value old new = members_view new ≡ (if resolver.is_known_keyword (draft_of key.draft) (string_bytes name)
+    then members_view old else put (string_bytes name) (view value) (members_view old))
 
 module _ {A P S T C Maker Run K : Type 0} (r : ResolverMembers A P S) (t : TableMembers T C Maker Run K) (k : KeywordMembers C Run K) (compiler : Compiler A T) where
   -- the input of the compiler
@@ -51,6 +60,10 @@ module _ {A P S T C Maker Run K : Type 0} (r : ResolverMembers A P S) (t : Table
   -- of the standard
   abbrev pub script_of : SchemaKey P → Entries → Bool → String Global → Script K
   script_of key members own name = t.script compiler.table.now own (string_bytes name) (members_view members) (draft_of key.draft) key.vocabularies (checks_formats g.task.parts (key_of g.point key))
+
+  -- the same for a member with this head
+  abbrev pub script_for : SchemaKey P → Entries → EntryHead → Script K
+  script_for key members head = script_of key members (is_own head.origin) head.name.now
 
   module _ (old : Compilation P C) (key : SchemaKey P) where
     -- why a key gets no number, given what was numbered before
@@ -159,6 +172,10 @@ module _ {A P S T C Maker Run K : Type 0} (r : ResolverMembers A P S) (t : Table
         × (GoesMaker g.task before after asked_key (members_view members) own (string_bytes name) (option_map entry_of o))
         × (Ends (place_of key.place) (string_bytes name) (node_made (option_map entry_of o)) old.reservations new.reservations))
         (RefusesMaker g.task before asked_key (members_view members) own (string_bytes name))
+
+    -- the same for a member with this head
+    abbrev pub GivesMadeBy : Entries → EntryHead → List (String Global) → List (String Global) → Result (Option (Entry C)) BuildError → Type 0
+    GivesMadeBy members head absorbed absorbed' result = GivesMade members (is_own head.origin) head.name.now head.priority head.is_leaf absorbed absorbed' result
 
     -- ---- a reference keyword, if it is not skipped
 

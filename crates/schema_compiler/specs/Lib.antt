@@ -1,4 +1,5 @@
 pub mod Ordering
+pub mod Heads
 pub mod Finding
 pub mod Reserving
 pub mod ReservedViews
@@ -11,6 +12,7 @@ pub mod UnderWay
 pub mod Working
 pub mod Compilation
 pub mod Given
+pub mod Lacking
 pub mod MayCompile
 pub mod Agreeing
 pub mod Nesting

@@ -8,14 +8,14 @@
 //! Keys, contexts, subschemas, the targets of references, and validation by meta validators belong
 //! to `schema_keys` and are re-exported.
 ghost use Rattle.std.specs.Prelude.{◌≡◌, IfErr, IfOk, OnOk, string_bytes};
-ghost use Rattle.schema_traits.specs.MakerViews.{is_own, name_of};
+ghost use Rattle.schema_traits.specs.MakerViews.{name_of};
 ghost use Rattle.schema_keys.specs.Alone.{RefusesVocabularies};
 ghost use Rattle.schema_compiler.specs.Compilation.{RefusesAlone, RefusesInOrder, RefusesRoot};
 ghost use Rattle.schema_keys.specs.Compiling.{Each};
 ghost use Rattle.schema_compiler.specs.Reserving.{IsGivenUp};
 ghost use Rattle.schema_compiler.specs.Given.{CompilesAll, CompilesSub, DeclaresAll, RefusedAs, given_of};
 ghost use Rattle.schema_compiler.specs.MayCompile.{IsReady, MayCompile, MayMake, MayReach, MayRefer};
-ghost use Rattle.schema_compiler.specs.Gives.{GivesChild, GivesEdge, GivesKeywords, GivesMade, GivesMember, GivesNumber};
+ghost use Rattle.schema_compiler.specs.Gives.{GivesChild, GivesEdge, GivesKeywords, GivesMadeBy, GivesMember, GivesNumber};
 ghost use Rattle.schema_compiler.specs.Gives.{GivesObject, GivesPlan, GivesTarget};
 
 use crate::compiler::annotations::{absorb, object_of, without};
@@ -330,8 +330,8 @@ impl<'p, R: Resolver, T> Compiler<'p, R, T> {
     }
 
     // The keyword of a member, if it is one. The table's own keywords come first, then the
-    // standard's; references are compiled by the engine itself. The names that the keyword absorbs
-    // are added.
+    // standard's. The compiler compiles references itself. The names that the keyword absorbs are
+    // added.
     #[cycle(compile)]
     fn entry_of<K: Validate>(
         &self,
@@ -396,9 +396,8 @@ impl<'p, R: Resolver, T> Compiler<'p, R, T> {
         T: KeywordTable<K>,
         requires may { MayMake R.Resolver T.KeywordTable K.Validate self.now compiled.old key.now members.now.entries }
         requires named { name_of head.origin ≡ string_bytes head.name.now }
-        ensures { GivesMade R.Resolver T.KeywordTable K.Validate self.now
-            compiled.old compiled.new key.now members.now.entries (is_own head.entry.origin) head.entry.name.now
-            head.entry.priority head.entry.is_leaf absorbed.old.items absorbed.new.items result }
+        ensures { GivesMadeBy R.Resolver T.KeywordTable K.Validate self.now compiled.old compiled.new key.now
+            members.now.entries head.entry absorbed.old.items absorbed.new.items result }
     {
         let first = compiled.reservations.len();
         let mut maker = self.maker_of(key, members, head)?;
@@ -472,7 +471,9 @@ impl<'p, R: Resolver, T> Compiler<'p, R, T> {
         Ok(self.edge_to(compiled, below.key, reading, false, below.pointer)?)
     }
 
-    /// Returns the edge to a reference's target; `None` if the reference is skipped.
+    /// Returns the edge to a reference's target.
+    ///
+    /// `None` if the reference is skipped.
     #[cycle(compile)]
     pub(crate) fn reference_edge<K: Validate>(
         &self,

@@ -14,7 +14,8 @@ use schema_node_table::{Entry, EntryForm};
 use schema_traits::{KeywordOrigin, KeywordTable, Resolver, Validate};
 use serde_json::Value;
 
-// The head of a reference under a keyword with this name, which is copied.
+// The head of a reference under a keyword with this name. The head counts as that of a table's own
+// keyword, so the entry gets a copy of the name.
 fn head_of(name: &String, priority: u8) -> EntryHead<'_>
     ensures named { name_of result.origin ≡ string_bytes result.name.now }
     ensures name { result.name.now ≡ name.now }
@@ -112,9 +113,9 @@ impl<'p, R: Resolver, T> Compiler<'p, R, T> {
         self.reference_by(compiled, key, head, ReferenceKind::Recursive, value)
     }
 
-    /// Compiles the reference of this kind under a keyword; `None` if it is skipped.
+    /// Compiles the reference of this kind under a keyword.
     ///
-    /// The keyword is not a leaf, whatever its head says.
+    /// `None` if the reference is skipped. The keyword is not a leaf, whatever its head says.
     #[cycle(compile)]
     pub(crate) fn reference_by<K: Validate>(
         &self,

@@ -1,13 +1,12 @@
 //! Annotations: the members that are no keyword of the schema.
 //!
 //! These are the members that no keyword is made of, that no keyword absorbs, and whose names the
-//! draft does not know. So every such member becomes an annotation, except in an object whose
-//! `$ref` overrides its siblings.
-ghost use Rattle.std.specs.Prelude.{◌≡◌, ◌++◌, OnOk, map, option_map, string_bytes, if◌then◌else◌};
-ghost use Rattle.serde_json.specs.Data.{put};
+//! draft does not know. Every such member becomes an annotation, except in an object whose `$ref`
+//! overrides its siblings.
+ghost use Rattle.std.specs.Prelude.{◌≡◌, OnOk, map, option_map, string_bytes};
 ghost use Rattle.serde_json.specs.View.{view, members_view};
 ghost use Rattle.theory_definitions.specs.Units.{object_of, without};
-ghost use Rattle.schema_drafts.specs.KeywordViews.{draft_of};
+ghost use Rattle.schema_compiler.specs.Gives.{Absorbs, KeepsUnknown};
 
 use crate::compiler::setup::Compiler;
 use schema_keys::SchemaKey;
@@ -24,9 +23,8 @@ impl<'p, R: Resolver, T> Compiler<'p, R, T> {
         name: &String,
         value: &Value,
     ) -> Result<(), OutOfMemory>
-        ensures kept { OnOk result (members_view unknown.new.entries ≡
-            (if (R.resolving self.now.resolver.now).is_known_keyword (draft_of key.now.draft) (string_bytes name.now)
-            then members_view unknown.old.entries else put (string_bytes name.now) (view value.now) (members_view unknown.old.entries))) }
+        ensures kept { OnOk result (KeepsUnknown (R.resolving self.now.resolver.now)
+            key.now name.now value.now unknown.old.entries unknown.new.entries) }
     {
         if !self.resolver.is_known_keyword(key.draft, name.as_str()) {
             let own = name.clone()?;
@@ -38,8 +36,7 @@ impl<'p, R: Resolver, T> Compiler<'p, R, T> {
 
 /// Appends the names that a keyword absorbs to those of the keywords before it.
 pub(crate) fn absorb(absorbed: &mut Vec<String>, names: Vec<String>) -> Result<(), OutOfMemory>
-    ensures added { OnOk result (map string_bytes absorbed.new.items ≡
-        map string_bytes absorbed.old.items ++ map string_bytes names.items) }
+    ensures added { OnOk result (Absorbs absorbed.old.items absorbed.new.items (map string_bytes names.items)) }
 {
     let mut more = names;
     absorbed.append(&mut more)?;

@@ -1,10 +1,9 @@
 //! Entries of keywords, in order of priority; those of one priority keep their order.
-ghost use Rattle.std.specs.Prelude.{◌≡◌, ◌≤◌, IfOk, None, map, length, insert, option_map, string_bytes, OnOk};
+ghost use Rattle.std.specs.Prelude.{◌≡◌, ◌≤◌, IfOk, None, map, length, option_map, string_bytes, OnOk};
 ghost use Rattle.schema_traits.specs.MakerViews.{name_of};
 ghost use Rattle.schema_traits.specs.Showing.{Shows, Yields};
-ghost use Rattle.theory_definitions.specs.Guarded.{NodePart};
 ghost use Rattle.schema_node_table.specs.NodeViews.{entry_of, form_of, plan_of};
-ghost use Rattle.schema_compiler.specs.Ordering.{placed_after};
+ghost use Rattle.schema_compiler.specs.Heads.{IsPlaceFor, IsPlaced, part_with};
 ghost use Rattle.schema_compiler.specs.Steps.{alone};
 
 use crate::compiler::compilation::PlannedNode;
@@ -26,8 +25,7 @@ pub(crate) struct EntryHead<'n> {
 // The index after the leading keywords with this priority or a lower one.
 fn place_for<K>(entries: &[Entry<K>], priority: u8) -> usize
     ensures within { result ≤ length entries.now }
-    ensures place { (x : NodePart K) → x.priority ≡ priority →
-        insert (map entry_of entries.now) result x ≡ placed_after x (map entry_of entries.now) }
+    ensures place { IsPlaceFor priority (map entry_of entries.now) result }
 {
     entries
         .iter()
@@ -40,14 +38,14 @@ pub(crate) fn insert_by_priority<K: Drop>(
     entries: &mut Vec<Entry<K>>,
     entry: Entry<K>,
 ) -> Result<(), OutOfMemory>
-    ensures placed { OnOk result (map entry_of entries.new.items ≡ placed_after (entry_of entry) (map entry_of entries.old.items)) }
+    ensures placed { OnOk result (IsPlaced entry entries.old.items entries.new.items) }
 {
     let place = place_for(entries.as_slice(), entry.priority);
     entries.insert(place, entry)?;
     Ok(())
 }
 
-// The name of a keyword. The name of a keyword of the standard is not copied.
+// The name of a keyword. It is not copied if the keyword is one of the standard.
 fn name_for(origin: KeywordOrigin<'_>, name: &String) -> Result<KeywordName, OutOfMemory>
     requires named { name_of origin ≡ string_bytes name.now }
     ensures name { Yields result (string_bytes name.now) }
@@ -64,12 +62,7 @@ pub(crate) fn entry_named<K: Drop>(
     form: EntryForm<K>,
 ) -> Result<Entry<K>, OutOfMemory>
     requires named { name_of head.origin ≡ string_bytes head.name.now }
-    ensures entry { Shows entry_of result (record {
-      name = string_bytes head.entry.name.now;
-      priority = head.entry.priority;
-      is_leaf = head.entry.is_leaf;
-      form = form_of form;
-    }) }
+    ensures entry { Shows entry_of result (part_with head.entry (form_of form)) }
 {
     Ok(Entry {
         name: name_for(head.origin, head.name)?,

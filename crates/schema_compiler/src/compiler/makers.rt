@@ -1,10 +1,11 @@
 //! The maker of one keyword: its start, and the replies to its requests.
-ghost use Rattle.std.specs.Prelude.{◌≡◌, ◌++◌, ◌∷◌, [], OnOk, length, map, option_map, string_bytes};
+ghost use Rattle.std.specs.Prelude.{◌≡◌, OnOk, length, option_map, string_bytes};
 ghost use Rattle.schema_traits.specs.Showing.{Shows};
-ghost use Rattle.schema_traits.specs.MakerViews.{begun, is_own, maker_reply_of, name_of};
+ghost use Rattle.schema_traits.specs.MakerViews.{begun, maker_reply_of, name_of};
 ghost use Rattle.schema_traits.specs.EdgeViews.{edge_of};
 ghost use Rattle.schema_keys.specs.Compiling.{answers};
-ghost use Rattle.schema_compiler.specs.Gives.{script_of};
+ghost use Rattle.schema_compiler.specs.Gives.{script_for};
+ghost use Rattle.schema_compiler.specs.Heads.{KeepsEdge};
 
 use crate::compiler::entries::EntryHead;
 use crate::compiler::setup::Compiler;
@@ -24,9 +25,8 @@ impl<'p, R: Resolver, T> Compiler<'p, R, T> {
     where
         T: KeywordTable<K>,
         requires named { name_of head.origin ≡ string_bytes head.name.now }
-        ensures begins { Shows T.waiting result (begun
-            (script_of R.Resolver T.KeywordTable K.Validate self.now key.now members.now.entries
-            (is_own head.entry.origin) head.entry.name.now)) }
+        ensures begins { Shows T.waiting result
+            (begun (script_for R.Resolver T.KeywordTable K.Validate self.now key.now members.now.entries head.entry)) }
     {
         let context = Context {
             alloc: self.alloc,
@@ -61,8 +61,7 @@ pub(crate) fn keep_edge(
     edges: &mut Vec<Option<Edge>>,
     edge: Option<Edge>,
 ) -> Result<MakerReply, OutOfMemory>
-    ensures kept { OnOk result (map (option_map edge_of) edges.new.items ≡
-        map (option_map edge_of) edges.old.items ++ option_map edge_of edge ∷ []) }
+    ensures kept { OnOk result (KeepsEdge edges.old.items edges.new.items edge) }
     ensures told { Shows maker_reply_of result (answers (option_map edge_of edge) (length edges.old.items)) }
 {
     let reply = reply_for(&edge, edges.len());

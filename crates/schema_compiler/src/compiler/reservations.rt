@@ -4,8 +4,8 @@
 //! made, or for a node without an entry. A reservation is for a place and a purpose, whatever the
 //! key. Reservations are counted apart from nodes, so each key has exactly one node.
 //!
-//! The replies to `Pending` and `Reserve` are specified for two functions inside the crate, and for
-//! no public call, because the law of tables says that they do not change what is compiled. Tests
+//! Two functions inside the crate specify the replies to `Pending` and `Reserve`. No public
+//! function does, because by the law of tables these replies do not change what is compiled. Tests
 //! check that the replies reach the maker.
 ghost use Rattle.std.specs.Prelude.{◌≡◌, ◌++◌, ◌∷◌, [], IfOk, OnErr, OnOk, length, map};
 ghost use Rattle.schema_traits.specs.MakerViews.{purpose_of};
@@ -162,7 +162,9 @@ impl Reservations {
         Ok(MakerReply::Reserved(PendingSchemaNode(number)))
     }
 
-    /// Gives up the numbers in force from one on. They then stand for this node.
+    /// Gives up the numbers in force from `from` on.
+    ///
+    /// They then stand for this node.
     pub(crate) fn give_up(&mut self, from: usize, node: ReservedNode)
         ensures given_up { self.new ≡ with_nodes_from from (node_of node) self.old }
     {

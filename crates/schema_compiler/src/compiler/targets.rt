@@ -1,8 +1,6 @@
 //! The targets of references, which may require only declared vocabularies.
-ghost use Rattle.std.specs.Prelude.{◌≡◌, [], IfOk, IfErr, IfSome, MatchOption, OnOk};
-ghost use Rattle.schema_keys.specs.KeyViews.{key_of, kind_of};
-ghost use Rattle.schema_compiler.specs.Carried.{RefusesTarget, Targets, lacking, task};
-ghost use Rattle.schema_keys.specs.Refusing.{Names};
+ghost use Rattle.std.specs.Prelude.{IfOk, IfErr, OnOk};
+ghost use Rattle.schema_compiler.specs.Lacking.{IsTarget, NamesLackingTarget, TargetLacksNone, TargetRefused};
 
 use crate::compiler::setup::Compiler;
 use schema_keys::{BuildError, Context, ReferenceKind, SchemaKey};
@@ -16,10 +14,8 @@ impl<'p, R: Resolver, T> Compiler<'p, R, T> {
     ) -> Result<(), BuildError>
     where
         T: KeywordTable<K>,
-        ensures declared { OnOk result (IfSome target.now (λ t. lacking
-            (task R.resolving T.owned T.script K.shape self.now) t.vocabularies ≡ [])) }
-        ensures refused { IfErr result (λ e. MatchOption target.now ⊥ (λ t. Names (lacking
-            (task R.resolving T.owned T.script K.shape self.now) t.vocabularies) e)) }
+        ensures declared { OnOk result (TargetLacksNone R.Resolver T.KeywordTable K.Validate self.now target.now) }
+        ensures refused { IfErr result (NamesLackingTarget R.Resolver T.KeywordTable K.Validate self.now target.now) }
     {
         match target {
             None => Ok(()),
@@ -27,7 +23,9 @@ impl<'p, R: Resolver, T> Compiler<'p, R, T> {
         }
     }
 
-    /// Returns the key of a reference's target; `None` if it is skipped.
+    /// Returns the key of a reference's target.
+    ///
+    /// `None` if the reference is skipped.
     pub(crate) fn target_of<K: Validate>(
         &self,
         key: &SchemaKey<R::State>,
@@ -36,10 +34,8 @@ impl<'p, R: Resolver, T> Compiler<'p, R, T> {
     ) -> Result<Option<SchemaKey<R::State>>, BuildError>
     where
         T: KeywordTable<K>,
-        ensures target { IfOk result (Targets (task R.resolving T.owned T.script K.shape self.now)
-            R.point (key_of R.point key.now) (kind_of kind) text.now) }
-        ensures refused { IfErr result (RefusesTarget (task R.resolving T.owned T.script K.shape self.now) (key_of R.point key.now)
-            (kind_of kind) text.now) }
+        ensures target { IfOk result (IsTarget R.Resolver T.KeywordTable K.Validate self.now key.now kind text.now) }
+        ensures refused { IfErr result (TargetRefused R.Resolver T.KeywordTable K.Validate self.now key.now kind text.now) }
     {
         let context = Context {
             alloc: self.alloc,

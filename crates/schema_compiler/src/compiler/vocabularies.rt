@@ -1,10 +1,7 @@
 //! Checks that the custom vocabularies that a schema requires are declared.
-ghost use Rattle.std.specs.Prelude.{◌≡◌, [], OnOk, IfErr, map, string_bytes, bytes_eq};
+ghost use Rattle.std.specs.Prelude.{◌≡◌, OnOk, IfErr, map, string_bytes, bytes_eq};
 ghost use Rattle.std.specs.List.{list_any};
-ghost use Rattle.theory_definitions.specs.Drafts.{custom_vocabulary};
-ghost use Rattle.schema_compiler.specs.Carried.{lacking, task};
-ghost use Rattle.schema_keys.specs.Alone.{NamesFirst};
-ghost use Rattle.schema_keys.specs.Refusing.{Names};
+ghost use Rattle.schema_compiler.specs.Lacking.{LacksNone, NamesFirstLacking, NamesLacking, custom_vocabularies};
 
 use crate::compiler::setup::Compiler;
 use schema_drafts::VocabularySet;
@@ -22,12 +19,9 @@ impl<'p, R: Resolver, T> Compiler<'p, R, T> {
     fn check_each<K: Validate>(&self, uris: &[String]) -> Result<(), BuildError>
     where
         T: KeywordTable<K>,
-        ensures declared { OnOk result (lacking (task R.resolving T.owned T.script K.shape self.now)
-            (map custom_vocabulary (map string_bytes uris.now)) ≡ []) }
-        ensures refused { IfErr result (Names (lacking (task R.resolving T.owned T.script K.shape self.now)
-            (map custom_vocabulary (map string_bytes uris.now)))) }
-        ensures first { IfErr result (NamesFirst (lacking (task R.resolving T.owned T.script K.shape self.now)
-            (map custom_vocabulary (map string_bytes uris.now)))) }
+        ensures declared { OnOk result (LacksNone R.Resolver T.KeywordTable K.Validate self.now (custom_vocabularies uris.now)) }
+        ensures refused { IfErr result (NamesLacking R.Resolver T.KeywordTable K.Validate self.now (custom_vocabularies uris.now)) }
+        ensures first { IfErr result (NamesFirstLacking R.Resolver T.KeywordTable K.Validate self.now (custom_vocabularies uris.now)) }
     {
         for uri in uris {
             if !is_declared(self.options.declared.as_slice(), uri.as_str()) {
@@ -44,9 +38,9 @@ impl<'p, R: Resolver, T> Compiler<'p, R, T> {
     ) -> Result<(), BuildError>
     where
         T: KeywordTable<K>,
-        ensures declared { OnOk result (lacking (task R.resolving T.owned T.script K.shape self.now) vocabularies.now ≡ []) }
-        ensures refused { IfErr result (Names (lacking (task R.resolving T.owned T.script K.shape self.now) vocabularies.now)) }
-        ensures first { IfErr result (NamesFirst (lacking (task R.resolving T.owned T.script K.shape self.now) vocabularies.now)) }
+        ensures declared { OnOk result (LacksNone R.Resolver T.KeywordTable K.Validate self.now vocabularies.now) }
+        ensures refused { IfErr result (NamesLacking R.Resolver T.KeywordTable K.Validate self.now vocabularies.now) }
+        ensures first { IfErr result (NamesFirstLacking R.Resolver T.KeywordTable K.Validate self.now vocabularies.now) }
     {
         self.check_each(vocabularies.custom())
     }
