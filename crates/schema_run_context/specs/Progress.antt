@@ -78,6 +78,20 @@ IsPlaceIn c k = k < length (places_in c)
 abbrev pub is_busy : ℕ → Place → Context → Bool
 is_busy n p c = list_any (λ i. i == n) (busy_at p c.in_progress)
 
+-- the same, for the pair of a node and the place that has a number
+abbrev pub is_busy_at : ℕ → ℕ → Context → Bool
+is_busy_at n k c = is_busy n (place_in c k) c
+
+-- that pair is entered; it is the last one; and it is taken away
+abbrev pub EntersAt : ℕ → ℕ → Context → Context → Bool → Type 0
+EntersAt n k old new b = Enters n (place_in old k) old.in_progress b new.in_progress
+
+abbrev pub IsLastAt : ℕ → ℕ → Context → Type 0
+IsLastAt n k c = EndsWith n (place_in c k) c.in_progress
+
+abbrev pub LeavesAt : ℕ → ℕ → Context → Context → Type 0
+LeavesAt n k old new = GoesLast n (place_in old k) new.in_progress old.in_progress
+
 -- a run that has begun on this instance, with what it remembers of matches; it may evaluate any
 -- number of nodes
 abbrev pub begun : Value → Remembered → Context

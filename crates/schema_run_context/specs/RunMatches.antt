@@ -1,5 +1,5 @@
 -- The outcomes of a run's matches under its assumptions, and what it remembers of them.
-use Rattle.std.specs.Prelude.{Bool}
+use Rattle.std.specs.Prelude.{Bool, is_some, ◌≡◌}
 use Rattle.theory_definitions.specs.Instance.{Text}
 use Rattle.theory_definitions.specs.Matching.{Matcher, Pair, Reason, assumed}
 use Rattle.theory_definitions.specs.Runs.{Site}
@@ -18,6 +18,11 @@ assumed_in c a = or_no (assumed c.remembered.assumptions a)
 -- what is remembered after a match was met at a site, unfinished for this reason
 abbrev pub met_in : Context → Pair → Site → Reason → Remembered
 met_in c a site reason = meet c.remembered (record { met = record { pair = a; site = site }; reason = reason })
+
+-- an unfinished match adds nothing to what is remembered, whatever its reason, at each site for
+-- which this says whether it has an instance path
+abbrev pub AddsNothing : Context → Pair → Bool → Type 0
+AddsNothing c a has_place = (site : Site) (reason : Reason) → is_some site.located ≡ has_place → met_in c a site reason ≡ c.remembered
 
 -- the outcome of a match with a matcher
 abbrev pub matches_in : Context → Matcher → Pair → Bool

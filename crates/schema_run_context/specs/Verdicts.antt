@@ -6,7 +6,7 @@ use Rattle.serde_json.specs.Data.{array, object}
 use Rattle.theory_definitions.specs.Instance.{Place, Subject, a_value, same_place}
 use Rattle.schema_reports.specs.InstanceViews.{subject_of}
 use Rattle.schema_reports.specs.declared.instance.Instance.{Instance}
-use Rattle.schema_run_context.specs.Progress.{Context, Pairs, Verdicts, busy_at, place_in}
+use Rattle.schema_run_context.specs.Progress.{Context, Pairs, Verdicts, busy_at, guard_words, place_in}
 
 -- a pair is the one of this node and this place
 abbrev pub is_pair : ℕ → Place → ℕ × Place → Bool
@@ -51,6 +51,18 @@ pub record MayKeep (i : ℕ) (p : Place) (s : Subject) (mark : ℕ) (c : Context
 abbrev pub MayKeepAt : ℕ → ℕ → Instance → ℕ → Context → Type 0
 MayKeepAt n k instance mark c = MayKeep n (place_in c k) (subject_of instance) mark c
 
+-- no other node is in progress at that place
+abbrev pub is_alone_at : ℕ → ℕ → Context → Bool
+is_alone_at n k c = is_alone n (place_in c k) c.in_progress
+
+-- the verdict of that node, if one is remembered
+abbrev pub verdict_at : ℕ → ℕ → Context → Option Bool
+verdict_at n k c = verdict_of n (place_in c k) c.verdicts
+
+-- no verdict is remembered any more, and no visit is counted
+abbrev pub forgetting : Context → Context
+forgetting c = record c { verdicts = []; visits = 0; kept = []; words = guard_words c }
+
 -- the verdict of that node is remembered
 abbrev pub RemembersAt : ℕ → ℕ → Bool → Context → Context → Type 0
 RemembersAt n k v old new = Remembers n (place_in old k) v old.verdicts new.verdicts
@@ -63,3 +75,7 @@ OnlyVerdicts old new = new ≡ record old { verdicts = new.verdicts; kept = new.
 -- place
 abbrev pub read_verdict : ℕ → Place → Context → Option Bool
 read_verdict i p c = if is_alone i p c.in_progress then verdict_of i p c.verdicts else None
+
+-- the same, for a node at the place that has a number
+abbrev pub read_at : ℕ → ℕ → Context → Option Bool
+read_at n k c = read_verdict n (place_in c k) c

@@ -1,10 +1,9 @@
 //! The marks of a keyword's run, and which marks count as the same.
 ghost use Rattle.std.specs.List.{list_any};
 ghost use Rattle.std.specs.Prelude.{◌≡◌, [], IfOk, OnOk, Some, option_map, OnErr};
-ghost use Rattle.theory_definitions.specs.Guarded.{node_child, same_edge, same_node};
+ghost use Rattle.theory_definitions.specs.Guarded.{node_child, same_node};
 ghost use Rattle.theory_definitions.specs.Runs.{without_last};
-ghost use Rattle.schema_traits.specs.KeywordViews.{marked_of};
-ghost use Rattle.schema_run_context.specs.MarkViews.{edges_of, is_marked, last_first, marks_with};
+ghost use Rattle.schema_run_context.specs.MarkViews.{edges_of, is_marked, last_first, lead_to_one, marks_with, same_mark};
 ghost use Rattle.schema_traits.specs.EdgeViews.{edge_of};
 
 use schema_reports::OutOfMemory;
@@ -38,7 +37,7 @@ fn are_alike(edge: &Edge, second: &Edge) -> bool
 }
 
 fn lead_to_one(children: &[Option<Edge>], child: usize, other: usize) -> bool
-    ensures one { result ≡ same_node (node_child (edges_of children.now) child) (node_child (edges_of children.now) other) }
+    ensures one { result ≡ lead_to_one children.now child other }
 {
     match child_edge(children, child) {
         None => false,
@@ -52,7 +51,7 @@ fn lead_to_one(children: &[Option<Edge>], child: usize, other: usize) -> bool
 // Returns whether two marks count as the same: they are of the same request, or of children that
 // get the same answer.
 fn are_one(children: &[Option<Edge>], mark: Marked, other: Marked) -> bool
-    ensures one { result ≡ same_edge (edges_of children.now) (marked_of mark) (marked_of other) }
+    ensures one { result ≡ same_mark children.now mark other }
 {
     match mark {
         Marked::Child(child) => match other {
@@ -67,7 +66,7 @@ fn are_one(children: &[Option<Edge>], mark: Marked, other: Marked) -> bool
 }
 
 fn is_among(children: &[Option<Edge>], mark: Marked, marks: &[Marked]) -> bool
-    ensures found { result ≡ list_any (λ other. same_edge (edges_of children.now) (marked_of mark) (marked_of other)) marks.now }
+    ensures found { result ≡ list_any (λ other. same_mark children.now mark other) marks.now }
 {
     marks.iter().any(|other| are_one(children, mark, *other))
 }

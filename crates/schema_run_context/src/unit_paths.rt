@@ -7,7 +7,7 @@
 ghost use Rattle.std.specs.Prelude.{◌≡◌, [], IfOk, IfSome, true};
 ghost use Rattle.theory_definitions.specs.Pointer.{escaped, joined};
 ghost use Rattle.schema_run_context.specs.EvaluationPaths.{is_under_reference, path_of};
-ghost use Rattle.schema_run_context.specs.UnitPaths.{GivesAfter, IsAfter, added_text};
+ghost use Rattle.schema_run_context.specs.UnitPaths.{GivesAfter, HasPath, HasSchema, IsAfter, IsUnder, added_text};
 
 use crate::evaluation_path::{EvaluationPath, path_from};
 use schema_reports::{Location, OutOfMemory, SharedLocation};
@@ -227,9 +227,9 @@ impl UnitPaths {
         schema: SharedLocation,
         under_reference: bool,
     ) -> Result<UnitTexts, OutOfMemory>
-        ensures path { IfOk result (λ t. t.path ≡ path) }
-        ensures schema { IfOk result (λ t. t.schema ≡ schema) }
-        ensures under { IfOk result (λ t. t.under_reference ≡ under_reference) }
+        ensures path { HasPath result path }
+        ensures schema { HasSchema result schema }
+        ensures under { IsUnder result under_reference }
     {
         let number = self.kept.len();
         let next = match before {
@@ -264,7 +264,7 @@ impl UnitPaths {
     ) -> Result<UnitTexts, OutOfMemory>
         ensures path { IfOk result (λ t. IsAfter before.now.path added.entry t.path) }
         ensures schema { IfOk result (λ t. IsAfter location.now more.entry t.schema) }
-        ensures under { IfOk result (λ t. t.under_reference ≡ under_reference) }
+        ensures under { IsUnder result under_reference }
     {
         match self.find(before.number, before.path.as_str(), added) {
             Some(kept) => {
@@ -296,9 +296,9 @@ impl UnitPaths {
         path: &EvaluationPath<'_>,
         location: &Location,
     ) -> Result<UnitTexts, OutOfMemory>
-        ensures path { IfOk result (λ t. t.path ≡ path_of path.now) }
-        ensures schema { IfOk result (λ t. t.schema ≡ location.now) }
-        ensures under { IfOk result (λ t. t.under_reference ≡ is_under_reference path.now) }
+        ensures path { HasPath result (path_of path.now) }
+        ensures schema { HasSchema result location.now }
+        ensures under { IsUnder result (is_under_reference path.now) }
     {
         let under_reference = path.is_under_reference();
         if let EvaluationPath::Across(before, added) = path {
@@ -327,8 +327,8 @@ impl UnitPaths {
         name: &str,
         location: &Location,
     ) -> Result<UnitTexts, OutOfMemory>
-        ensures path { IfOk result (λ t. t.path ≡ joined (path_of path.now) name.now) }
-        ensures schema { IfOk result (λ t. t.schema ≡ joined location.now name.now) }
+        ensures path { HasPath result (joined (path_of path.now) name.now) }
+        ensures schema { HasSchema result (joined location.now name.now) }
     {
         let under_reference = path.is_under_reference();
         if is_bare(name.as_bytes()) {

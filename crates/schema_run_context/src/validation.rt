@@ -3,23 +3,23 @@
 //! The verdict of a guarded question depends on the pairs that are in progress at its place, and on
 //! no other pairs. So such a verdict is kept and read only if no other node is in progress there.
 //! The marks belong to one run of a keyword, so they are set aside while another one runs.
-ghost use Rattle.std.specs.Prelude.{◌≡◌, ◌≤◌, [], IfOk, IfSome, OnErr, OnOk, is_some, true, OnSome};
+ghost use Rattle.std.specs.Prelude.{◌≡◌, ◌≤◌, [], IfOk, IfSome, OnErr, OnOk, true, OnSome};
 ghost use Rattle.std.specs.Borrow.{sem};
 ghost use Rattle.schema_traits.specs.Showing.{Yields};
-ghost use Rattle.theory_definitions.specs.Matching as matching;
 ghost use Rattle.unfinished_matches.specs.MatchViews.{reason_of};
 ghost use Rattle.theory_definitions.specs.Pointer.{joined};
-ghost use Rattle.theory_definitions.specs.Runs.{Site, without_last};
+ghost use Rattle.theory_definitions.specs.Runs.{without_last};
 ghost use Rattle.theory_definitions.specs.Unfinished.{starting};
 ghost use Rattle.schema_run_context.specs.EvaluationPaths.{GivesPath, is_under_reference, path_of};
 ghost use Rattle.schema_run_context.specs.MarkViews.{is_marked, marks_with};
-ghost use Rattle.schema_run_context.specs.RunMatches.{a_pair, asked_in, assumed_in, matches_in, met_in};
+ghost use Rattle.schema_run_context.specs.RunMatches.{AddsNothing, a_pair, asked_in, assumed_in, matches_in, met_in};
 ghost use Rattle.serde_json.specs.View.{view};
 ghost use Rattle.schema_places.specs.Numbers.{NumbersAll};
-ghost use Rattle.schema_run_context.specs.Progress.{Adds, Distinct, EndsWith, Enters, FewRows, GoesLast, IsPlaceIn, IsWide};
-ghost use Rattle.schema_run_context.specs.Progress.{OnlyMarks, OnlyMatches, OnlyPairs, begun, guard_words, is_busy, place_in, places_in};
+ghost use Rattle.schema_run_context.specs.Progress.{Adds, Distinct, EntersAt, FewRows, IsLastAt, IsPlaceIn, IsWide, LeavesAt};
+ghost use Rattle.schema_run_context.specs.Progress.{OnlyMarks, OnlyMatches, OnlyPairs, begun, is_busy_at, places_in};
 ghost use Rattle.schema_run_context.specs.Verdicts.{MayKeepAt, OnlyVerdicts, RemembersAt};
-ghost use Rattle.schema_run_context.specs.Verdicts.{is_alone, is_container, one_more, read_verdict, verdict_of};
+ghost use Rattle.schema_run_context.specs.Verdicts.{forgetting, is_alone_at, is_container, one_more, read_at, verdict_at};
+ghost use Rattle.schema_run_context.specs.UnitPaths.{HasPath, HasSchema, IsUnder};
 ghost use Rattle.schema_run_context.specs.Works.{Asks, IsSpent};
 ghost use Rattle.schema_reports.specs.InstanceViews.{subject_of};
 
@@ -227,7 +227,7 @@ impl<'i> ValidationContext<'i> {
     /// Returns whether the pair is in progress. Allocates nothing.
     pub fn is_in_progress(&self, node: SchemaNode, place: usize) -> bool
         requires known { IsPlaceIn self.now place }
-        ensures found { result ≡ is_busy node.0 (place_in self.now place) self.now }
+        ensures found { result ≡ is_busy_at node.0 place self.now }
         ensures distinct { Distinct self.now.in_progress }
     {
         self.guard.has_bit(node.0, place)
@@ -240,7 +240,7 @@ impl<'i> ValidationContext<'i> {
     /// Out of memory. Then nothing has changed.
     pub fn enter(&mut self, node: SchemaNode, place: usize) -> Result<bool, OutOfMemory>
         requires known { IsPlaceIn self.old place }
-        ensures enters { IfOk result (λ b. Enters node.0 (place_in self.old place) self.old.in_progress b self.new.in_progress) }
+        ensures enters { IfOk result (EntersAt node.0 place self.old self.new) }
         ensures unchanged { OnErr result (self.new ≡ self.old) }
         ensures distinct { Distinct self.new.in_progress }
         ensures entered { OnOk result (Adds node.0 self.old.entered self.new.entered) }
@@ -267,8 +267,8 @@ impl<'i> ValidationContext<'i> {
     /// Allocates nothing.
     pub fn exit(&mut self, node: SchemaNode, place: usize)
         requires known { IsPlaceIn self.old place }
-        requires last { EndsWith node.0 (place_in self.old place) self.old.in_progress }
-        ensures left { GoesLast node.0 (place_in self.old place) self.new.in_progress self.old.in_progress }
+        requires last { IsLastAt node.0 place self.old }
+        ensures left { LeavesAt node.0 place self.old self.new }
         ensures frame { OnlyPairs self.old self.new }
         ensures entered { self.new.entered ≡ self.old.entered }
         ensures words { self.new.words ≡ self.old.words }
@@ -365,8 +365,7 @@ impl<'i> ValidationContext<'i> {
     /// whether that site has an instance path.
     pub fn known_outcome(&self, pattern: &str, subject: &str, has_place: bool) -> Option<bool>
         ensures answer { IfSome result (λ b. b ≡ assumed_in self.now (a_pair pattern.now subject.now)) }
-        ensures nothing_new { OnSome result ((site : Site) (reason : matching.Reason) → is_some site.located ≡ has_place
-            → met_in self.now (a_pair pattern.now subject.now) site reason ≡ self.now.remembered) }
+        ensures nothing_new { OnSome result (AddsNothing self.now (a_pair pattern.now subject.now) has_place) }
     {
         self.matches.known_outcome(pattern, subject, has_place)
     }
@@ -397,7 +396,7 @@ impl<'i> ValidationContext<'i> {
     // Returns whether no other node is in progress at the place.
     fn is_alone(&self, node: SchemaNode, place: usize) -> bool
         requires known { IsPlaceIn self.now place }
-        ensures alone { result ≡ is_alone node.0 (place_in self.now place) self.now.in_progress }
+        ensures alone { result ≡ is_alone_at node.0 place self.now }
     {
         let count = count_at(self.counts.as_slice(), place);
         if count == 0 {
@@ -414,7 +413,7 @@ impl<'i> ValidationContext<'i> {
     /// It does not depend on what is in progress there. Allocates nothing.
     pub fn remembered_verdict(&self, node: SchemaNode, place: usize) -> Option<bool>
         requires known { IsPlaceIn self.now place }
-        ensures read { result ≡ verdict_of node.0 (place_in self.now place) self.now.verdicts }
+        ensures read { result ≡ verdict_at node.0 place self.now }
     {
         self.known.verdict_in(node.0, place)
     }
@@ -424,7 +423,7 @@ impl<'i> ValidationContext<'i> {
     /// It may not be read if another node is in progress at the place. Allocates nothing.
     pub fn get_cached_result(&self, node: SchemaNode, place: usize) -> Option<bool>
         requires known { IsPlaceIn self.now place }
-        ensures read { result ≡ read_verdict node.0 (place_in self.now place) self.now }
+        ensures read { result ≡ read_at node.0 place self.now }
     {
         let found = self.remembered_verdict(node, place)?;
         if self.is_alone(node, place) {
@@ -522,7 +521,7 @@ impl<'i> ValidationContext<'i> {
 
     /// Forgets all verdicts and visits, for a new run. Allocates nothing.
     pub fn forget_verdicts(&mut self)
-        ensures forgotten { self.new ≡ record self.old { verdicts = []; visits = 0; kept = []; words = guard_words self.old } }
+        ensures forgotten { self.new ≡ forgetting self.old }
         ensures wide { IsWide self.new }
     {
         self.known.clear();
@@ -563,9 +562,9 @@ impl<'i> ValidationContext<'i> {
         path: &EvaluationPath<'_>,
         location: &Location,
     ) -> Result<UnitTexts, OutOfMemory>
-        ensures path { IfOk result (λ t. t.path ≡ path_of path.now) }
-        ensures schema { IfOk result (λ t. t.schema ≡ location.now) }
-        ensures under { IfOk result (λ t. t.under_reference ≡ is_under_reference path.now) }
+        ensures path { HasPath result (path_of path.now) }
+        ensures schema { HasSchema result location.now }
+        ensures under { IsUnder result (is_under_reference path.now) }
         ensures stays { self.new ≡ self.old }
     {
         self.unit_paths.of_node(alloc, path, location)
@@ -585,8 +584,8 @@ impl<'i> ValidationContext<'i> {
         name: &str,
         location: &Location,
     ) -> Result<UnitTexts, OutOfMemory>
-        ensures path { IfOk result (λ t. t.path ≡ joined (path_of path.now) name.now) }
-        ensures schema { IfOk result (λ t. t.schema ≡ joined location.now name.now) }
+        ensures path { HasPath result (joined (path_of path.now) name.now) }
+        ensures schema { HasSchema result (joined location.now name.now) }
         ensures stays { self.new ≡ self.old }
     {
         self.unit_paths.of_keyword(alloc, path, name, location)
