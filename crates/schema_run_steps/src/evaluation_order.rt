@@ -3,10 +3,9 @@
 //! The unit of an absorbed `type` comes first. Those of absorbed counts come before the first entry
 //! that looks inside the instance. The units of the entries are in one list of exact size, which is
 //! cut in two only if something is absorbed.
-ghost use Rattle.std.specs.Prelude.{◌≡◌, Bool, IfOk, map, OnOk};
-ghost use Rattle.schema_reports.specs.UnitViews.{unit_of};
-ghost use Rattle.theory_definitions.specs.UnitOrder.{all_placed, nothing_placed, placed, with_absorbed};
-ghost use Rattle.schema_run_steps.specs.EntryUnits.{absorbed_of, entry_units_of, placed_of};
+ghost use Rattle.std.specs.Prelude.{◌≡◌, Bool, IfOk, OnOk};
+ghost use Rattle.theory_definitions.specs.UnitOrder.{nothing_placed, placed};
+ghost use Rattle.schema_run_steps.specs.EntryUnits.{ListsInOrder, PlacesAbsorbed, PlacesEntry, placed_of};
 
 use schema_reports::{ChildList, EvaluationNode, OutOfMemory};
 use std::alloc::Global;
@@ -59,8 +58,7 @@ impl UnitsInOrder {
     }
 
     fn place_absorbed(&mut self, absorbed: Vec<AbsorbedUnit>) -> Result<(), OutOfMemory>
-        ensures placed { OnOk result ((texts : Bool) → placed_of texts self.new
-            ≡ with_absorbed (placed_of texts self.old) (map (absorbed_of texts) absorbed.items)) }
+        ensures placed { OnOk result (PlacesAbsorbed self.old absorbed.items self.new) }
     {
         for one in absorbed {
             if one.keyword.as_str() == "type" {
@@ -78,8 +76,7 @@ impl UnitsInOrder {
     ///
     /// Out of memory.
     pub fn place(&mut self, priority: u8, units: EntryUnits) -> Result<(), OutOfMemory>
-        ensures placed { OnOk result ((texts : Bool) → placed_of texts self.new
-            ≡ placed (placed_of texts self.old) (record { priority = priority; units = entry_units_of texts units })) }
+        ensures placed { OnOk result (PlacesEntry self.old priority units self.new) }
     {
         self.place_absorbed(units.absorbed)?;
         let placed = self.entries.len();
@@ -100,7 +97,7 @@ impl UnitsInOrder {
     ///
     /// Out of memory.
     pub fn into_children(self) -> Result<ChildList, OutOfMemory>
-        ensures children { IfOk result (λ l. (texts : Bool) → map (unit_of texts) l ≡ all_placed (placed_of texts self)) }
+        ensures children { IfOk result (ListsInOrder self) }
     {
         let mut nodes = self.types;
         let mut entries = self.entries;

@@ -1,14 +1,12 @@
 //! The faults that a keyword found, turned into errors at its place.
-ghost use Rattle.std.specs.Prelude.{◌≡◌, IfOk, Some, [], map, slice_get};
+ghost use Rattle.std.specs.Prelude.{◌≡◌, IfOk, Some, [], slice_get};
 ghost use Rattle.schema_traits.specs.Showing.{Shows};
-ghost use Rattle.theory_definitions.specs.Instance.{subject_from};
-ghost use Rattle.schema_reports.specs.InstanceViews.{step_of, subject_of};
 ghost use Rattle.schema_run_steps.specs.AnswerModes.{mode_in};
 ghost use Rattle.schema_traits.specs.FaultViews.{faults_in};
 ghost use Rattle.schema_traits.specs.KeywordViews.{mode_of};
 ghost use Rattle.schema_traits.specs.declared.keyword.Fault.TheVariants as variant;
 ghost use Rattle.theory_definitions.specs.Keywords.{for_all, for_first, for_units};
-ghost use Rattle.schema_run_steps.specs.PlaceWords.{HasSteps, name_from};
+ghost use Rattle.schema_run_steps.specs.PlaceWords.{IsBelow, name_from};
 ghost use Rattle.schema_run_steps.specs.FaultWords.{BorrowsAnswer, BorrowsFault, BorrowsFaults, GivesFresh, IsVerdictOf};
 ghost use Rattle.schema_run_steps.specs.FaultWords.{ErrorStandsAt, SaysAnswer, SaysFault, SaysFaults};
 
@@ -59,8 +57,7 @@ fn begun_evaluation<'i>(alloc: Global) -> Result<Answer<'i>, OutOfMemory>
 
 // Returns what is some steps below, or the instance itself if the steps lead nowhere.
 fn instance_below<'i>(instance: Instance<'i>, steps: &[InstanceStep<'i>]) -> Instance<'i>
-    ensures below { HasSteps instance.entry steps.now
-        → subject_from (map step_of steps.now) (subject_of instance.entry) ≡ Some (subject_of result) }
+    ensures below { IsBelow instance.entry steps.now result }
 {
     let mut found = instance;
     for step in steps {
@@ -100,7 +97,7 @@ fn error_places<'i, K>(
     found: &OwnError<'i>,
     context: &mut ValidationContext<'i>,
 ) -> Result<ErrorPlaces<'i>, OutOfMemory>
-    ensures places { IfOk result (λ p. ErrorStandsAt node.now name.now question.now found.now p) }
+    ensures places { IfOk result (ErrorStandsAt node.now name.now question.now found.now) }
     ensures stays { context.new ≡ context.old }
 {
     let first = spot_name(&found.absorbed, name);
@@ -241,8 +238,8 @@ fn first_finished<'i, K>(
     answer: Answer<'i>,
     context: &mut ValidationContext<'i>,
 ) -> Result<Reply<'i>, OutOfMemory>
-    ensures reply { IfOk result (λ r. SaysAnswer node.now name.now question.now for_first answer.entry r) }
-    ensures borrows { IfOk result (λ r. BorrowsAnswer question.now for_first answer.entry r) }
+    ensures reply { IfOk result (SaysAnswer node.now name.now question.now for_first answer.entry) }
+    ensures borrows { IfOk result (BorrowsAnswer question.now for_first answer.entry) }
     ensures stays { context.new ≡ context.old }
 {
     match first_fault(answer) {
@@ -264,8 +261,8 @@ fn all_finished<'i, K>(
     answer: Answer<'i>,
     context: &mut ValidationContext<'i>,
 ) -> Result<Reply<'i>, OutOfMemory>
-    ensures reply { IfOk result (λ r. SaysAnswer node.now name.now question.now for_all answer.entry r) }
-    ensures borrows { IfOk result (λ r. BorrowsAnswer question.now for_all answer.entry r) }
+    ensures reply { IfOk result (SaysAnswer node.now name.now question.now for_all answer.entry) }
+    ensures borrows { IfOk result (BorrowsAnswer question.now for_all answer.entry) }
     ensures stays { context.new ≡ context.old }
 {
     let faults = all_faults(alloc, answer)?;
@@ -286,8 +283,8 @@ pub fn finished<'i, K>(
     answer: Answer<'i>,
     context: &mut ValidationContext<'i>,
 ) -> Result<Reply<'i>, OutOfMemory>
-    ensures reply { IfOk result (λ r. SaysAnswer node.now name.now question.now (mode_of question.now.mode) answer.entry r) }
-    ensures borrows { IfOk result (λ r. BorrowsAnswer question.now (mode_of question.now.mode) answer.entry r) }
+    ensures reply { IfOk result (SaysAnswer node.now name.now question.now (mode_of question.now.mode) answer.entry) }
+    ensures borrows { IfOk result (BorrowsAnswer question.now (mode_of question.now.mode) answer.entry) }
     ensures stays { context.new ≡ context.old }
 {
     match question.mode {

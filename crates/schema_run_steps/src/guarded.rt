@@ -2,8 +2,8 @@
 //!
 //! Questions to shared nodes have such a pair too. The verdict is looked up before the pair is
 //! entered, so a remembered verdict leaves the context as it was. The contracts here state
-//! everything by which the cycle of calls that runs nodes decides, so the error of a wrong body
-//! shows as an open goal of one clause.
+//! everything that the functions that run nodes rely on, so a wrong body leaves the goal of one
+//! clause open.
 ghost use Rattle.std.specs.Prelude.{◌≡◌, IfOk, OnErr, OnOk, Some, false, is_some, true};
 ghost use Rattle.serde_json.specs.View.{view};
 ghost use Rattle.theory_definitions.specs.Instance.{subject_at};
@@ -101,7 +101,7 @@ impl<'q, 'i> GuardedPair<'q, 'i> {
         context.exit(self.node, self.number);
     }
 
-    /// Returns the verdict of the pair, if it is known without a run of its node.
+    /// Returns the verdict of the pair, if it is known without a run.
     ///
     /// It is `true` if the pair is in progress. Otherwise it is the remembered one, unless another
     /// node is in progress at its place. Allocates nothing.

@@ -1,7 +1,7 @@
 //! The replies of runs, in each mode.
-ghost use Rattle.std.specs.Prelude.{◌≡◌, IfOk, Bool, [], map, option_map, string_bytes, OnOk};
+ghost use Rattle.std.specs.Prelude.{◌≡◌, IfOk, Bool, [], option_map, string_bytes, OnOk};
 ghost use Rattle.theory_definitions.specs.Reports.{accepted};
-ghost use Rattle.theory_definitions.specs.Meaning.{false_outcome, false_error, stamped};
+ghost use Rattle.theory_definitions.specs.Meaning.{false_error, stamped};
 ghost use Rattle.schema_reports.specs.ReportViews.{error_of};
 ghost use Rattle.schema_traits.specs.KeywordViews.{mode_of, reply_of};
 ghost use Rattle.schema_traits.specs.declared.keyword.Reply.TheVariants as variant;
@@ -11,7 +11,8 @@ ghost use Rattle.schema_traits.specs.FaultViews.{errors_in};
 ghost use Rattle.schema_run_steps.specs.EvaluationPlaces.{steps_to};
 ghost use Rattle.schema_run_steps.specs.ReplyModes.{reply_by, refuses, accepts};
 ghost use Rattle.schema_run_steps.specs.FaultWords.{BorrowsAsked};
-ghost use Rattle.schema_run_steps.specs.ReplyWords.{BorrowsBoth, SaysBoth, SaysFalse, StampsError, StampsReply, StayBorrowed};
+ghost use Rattle.schema_run_steps.specs.ReplyWords.{BorrowsBoth, RefusesAsked, SaysBoth, SaysFalse, StampsError, StampsErrors, StampsReply};
+ghost use Rattle.schema_run_steps.specs.ReplyWords.{StayBorrowed};
 
 use crate::question::Question;
 use schema_node_table::{KeywordName, Node, absolute_location};
@@ -74,8 +75,8 @@ fn joined_all<'i>(
     mut errors: Vec<ValidationError<'i>>,
     more: Reply<'i>,
 ) -> Result<Reply<'i>, OutOfMemory>
-    ensures both { IfOk result (λ r. SaysBoth (variant.All errors.entry) more.entry r) }
-    ensures borrows { IfOk result (λ r. BorrowsBoth (variant.All errors.entry) more.entry r) }
+    ensures both { IfOk result (SaysBoth (variant.All errors.entry) more.entry) }
+    ensures borrows { IfOk result (BorrowsBoth (variant.All errors.entry) more.entry) }
 {
     match more {
         Reply::All(mut others) => {
@@ -95,8 +96,8 @@ fn joined_all<'i>(
 ///
 /// Out of memory.
 pub fn joined<'i>(found: Reply<'i>, more: Reply<'i>) -> Result<Reply<'i>, OutOfMemory>
-    ensures both { IfOk result (λ r. SaysBoth found.entry more.entry r) }
-    ensures borrows { IfOk result (λ r. BorrowsBoth found.entry more.entry r) }
+    ensures both { IfOk result (SaysBoth found.entry more.entry) }
+    ensures borrows { IfOk result (BorrowsBoth found.entry more.entry) }
 {
     match found {
         Reply::Nothing => Ok(more),
@@ -158,7 +159,7 @@ pub fn stamped_error<'i, K>(
     name: &KeywordName,
     mut error: ValidationError<'i>,
 ) -> Result<ValidationError<'i>, OutOfMemory>
-    ensures stamped { IfOk result (λ e. StampsError node.now name.now error.entry e) }
+    ensures stamped { IfOk result (StampsError node.now name.now error.entry) }
     ensures place { IfOk result (λ e. e.place ≡ error.entry.place) }
     ensures instance { IfOk result (λ e. e.instance ≡ error.entry.instance) }
 {
@@ -172,8 +173,7 @@ fn stamped_errors<'i, K>(
     name: &KeywordName,
     mut errors: Vec<ValidationError<'i>>,
 ) -> Result<Vec<ValidationError<'i>>, OutOfMemory>
-    ensures stamped { IfOk result (λ es. (texts : Bool) → map (error_of texts) es.items
-        ≡ map (stamped (keyword_absolute (node_of node.now) name.now)) (map (error_of texts) errors.entry.items)) }
+    ensures stamped { IfOk result (λ es. StampsErrors node.now name.now errors.entry.items es.items) }
     ensures borrows { IfOk result (λ es. StayBorrowed errors.entry.items es.items) }
 {
     for error in errors.iter_mut() {
@@ -191,7 +191,7 @@ fn stamped_by_base<'i, K>(
     name: &KeywordName,
     reply: Reply<'i>,
 ) -> Result<Reply<'i>, OutOfMemory>
-    ensures stamped { IfOk result (λ r. StampsReply node.now name.now reply.entry r) }
+    ensures stamped { IfOk result (StampsReply node.now name.now reply.entry) }
     ensures borrows { IfOk result (λ r. StayBorrowed (errors_in reply.entry) (errors_in r)) }
 {
     match reply {
@@ -223,7 +223,7 @@ pub fn stamped_reply<'i, K>(
     name: &KeywordName,
     reply: Reply<'i>,
 ) -> Result<Reply<'i>, OutOfMemory>
-    ensures stamped { IfOk result (λ r. StampsReply node.now name.now reply.entry r) }
+    ensures stamped { IfOk result (StampsReply node.now name.now reply.entry) }
     ensures borrows { IfOk result (λ r. StayBorrowed (errors_in reply.entry) (errors_in r)) }
 {
     if node.base.is_none() {
@@ -244,9 +244,8 @@ pub fn refused<'i, K>(
     node: &Node<K>,
     question: &Question<'_, 'i>,
 ) -> Result<Reply<'i>, OutOfMemory>
-    ensures refuses { IfOk result (λ r. SaysFalse node.now question.now reply_of
-        (λ texts w s. reply_by (mode_of question.now.mode) (false_outcome texts w s)) r) }
-    ensures borrows { IfOk result (λ r. BorrowsAsked question.now r) }
+    ensures refuses { IfOk result (RefusesAsked node.now question.now) }
+    ensures borrows { IfOk result (BorrowsAsked question.now) }
 {
     match question.mode {
         Mode::Verdict => Ok(Reply::Truth(false)),
@@ -273,7 +272,7 @@ pub fn false_error<'i, K>(
     node: &Node<K>,
     question: &Question<'_, 'i>,
 ) -> Result<ValidationError<'i>, OutOfMemory>
-    ensures error { IfOk result (λ e. SaysFalse node.now question.now error_of false_error e) }
+    ensures error { IfOk result (SaysFalse node.now question.now error_of false_error) }
     ensures place { IfOk result (λ e. e.place ≡ steps_to question.now.place.now) }
     ensures instance { IfOk result (λ e. e.instance ≡ question.now.instance) }
 {

@@ -4,7 +4,7 @@ ghost use Rattle.schema_reports.specs.InstanceViews.{step_of, subject_of};
 ghost use Rattle.theory_definitions.specs.Keywords.{down, here};
 ghost use Rattle.theory_definitions.specs.Laws.{IsPresent, steps_below};
 ghost use Rattle.schema_traits.specs.KeywordViews.{below_of};
-ghost use Rattle.schema_run_steps.specs.PlaceWords.{HasSteps, place_under, subject_after};
+ghost use Rattle.schema_run_steps.specs.PlaceWords.{HasSteps, LeadsBelow, place_under, subject_after};
 
 use crate::evaluation_place::EvaluationPlace;
 use schema_reports::{Instance, InstanceStep, OutOfMemory, Place};
@@ -47,9 +47,7 @@ pub fn one_below<'i>(
     below: Below<'_>,
 ) -> Option<(Instance<'i>, InstanceStep<'i>)>
     requires present { IsPresent (subject_of instance) (steps_below (below_of below)) }
-    ensures below { MatchOption result (below_of below.entry ≡ here)
-        (λ r. (below_of below.entry ≡ down (step_of r.1))
-        × (subject_after r.1 instance.entry ≡ Some (subject_of r.0))) }
+    ensures below { LeadsBelow instance.entry below.entry result }
 {
     let step = step_below(below)?;
     match after(instance, step) {

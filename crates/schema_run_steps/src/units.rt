@@ -3,19 +3,18 @@
 //! A node has a unit of its own, one for each entry, and one for each keyword that an entry
 //! absorbs.
 ghost use Rattle.std.specs.Prelude.{◌≡◌, Bool, IfOk, map};
-ghost use Rattle.theory_definitions.specs.Meaning.{Where};
-ghost use Rattle.theory_definitions.specs.Pointer.{joined, pointer_to};
-ghost use Rattle.theory_definitions.specs.Reports.{unit, units_of};
-ghost use Rattle.schema_run_steps.specs.EntryUnits.{absorbed_of, entry_units_of};
+ghost use Rattle.theory_definitions.specs.Reports.{unit};
+ghost use Rattle.theory_definitions.specs.Units.{false_unit, given_units, keyword_unit, no_unit, true_unit};
 ghost use Rattle.schema_reports.specs.EvaluationResults.{gives_of, named_of};
-ghost use Rattle.theory_definitions.specs.Units.{false_unit, given_units, keyword_unit, no_unit, reference_units, true_unit};
 ghost use Rattle.schema_reports.specs.UnitViews.{unit_of};
 ghost use Rattle.schema_traits.specs.KeywordViews.{answer_of};
+ghost use Rattle.schema_run_steps.specs.EntryUnits.{absorbed_of, entry_units_of};
 ghost use Rattle.schema_run_steps.specs.NodeUnits.{named_gives};
-ghost use Rattle.schema_run_steps.specs.Askings.{Asking, at_work};
-ghost use Rattle.schema_run_steps.specs.PlaceWords.{path_here, pointer_here};
+ghost use Rattle.schema_run_steps.specs.Askings.{at_work};
+ghost use Rattle.schema_run_steps.specs.PlaceWords.{pointer_here};
 ghost use Rattle.schema_run_steps.specs.ReplyWords.{SaysFalse};
-ghost use Rattle.schema_run_steps.specs.UnitWords.{IsUnit, UnitStandsAt, report_at, unit_around};
+ghost use Rattle.schema_run_steps.specs.UnitWords.{AreUnitsOfReference, IsUnit, IsUnitAround, IsUnitAt};
+ghost use Rattle.schema_run_steps.specs.UnitWords.{KeywordStandsAt, NodeStandsAt, UnitStandsAt};
 
 use crate::evaluation_order::{AbsorbedUnit, EntryUnits};
 use crate::question::Question;
@@ -48,8 +47,7 @@ impl UnitPlaces {
         errors: Vec<ErrorDescription>,
         children: ChildList,
     ) -> EvaluationNode
-        ensures unit { IsUnit (λ texts. unit (report_at texts self valid annotations errors.items)
-            (units_of (map (unit_of texts) children))) result }
+        ensures unit { IsUnitAt self valid annotations errors.items children result }
     {
         EvaluationNode {
             report: UnitReport {
@@ -74,7 +72,7 @@ fn places_by<K>(
     kept: UnitTexts,
     pointer: SharedLocation,
 ) -> Result<UnitPlaces, OutOfMemory>
-    ensures { IfOk result (λ p. UnitStandsAt node.now pointer kept.path kept.schema p) }
+    ensures { IfOk result (UnitStandsAt node.now pointer kept.path kept.schema) }
 {
     let absolute_keyword_location = absolute_location(alloc, node, kept.schema.as_str())?;
     Ok(UnitPlaces {
@@ -92,7 +90,7 @@ fn node_places<K>(
     question: &Question<'_, '_>,
     context: &mut ValidationContext<'_>,
 ) -> Result<UnitPlaces, OutOfMemory>
-    ensures places { IfOk result (λ p. UnitStandsAt node.now (pointer_here question.now) (path_here question.now) node.now.location p) }
+    ensures places { IfOk result (NodeStandsAt node.now question.now) }
     ensures stays { context.new ≡ context.old }
 {
     let kept = context.node_texts(alloc, question.path, &node.location)?;
@@ -111,7 +109,7 @@ pub fn accepting_unit<K>(
     question: &Question<'_, '_>,
     context: &mut ValidationContext<'_>,
 ) -> Result<EvaluationNode, OutOfMemory>
-    ensures unit { IfOk result (λ u. IsUnit (λ _. true_unit (at_work node.now question.now)) u) }
+    ensures unit { IfOk result (IsUnit (λ _. true_unit (at_work node.now question.now))) }
     ensures stays { context.new ≡ context.old }
 {
     let places = node_places(alloc, node, question, context)?;
@@ -124,7 +122,7 @@ pub fn accepting_unit<K>(
 ///
 /// Out of memory.
 pub fn unasked_unit(alloc: Global) -> Result<EvaluationNode, OutOfMemory>
-    ensures unit { IfOk result (λ u. IsUnit (λ _. no_unit) u) }
+    ensures unit { IfOk result (IsUnit (λ _. no_unit)) }
 {
     let root = SharedLocation::root(alloc)?;
     Ok(EvaluationNode {
@@ -154,7 +152,7 @@ pub fn refusing_unit<K>(
     question: &Question<'_, '_>,
     context: &mut ValidationContext<'_>,
 ) -> Result<EvaluationNode, OutOfMemory>
-    ensures unit { IfOk result (λ u. SaysFalse node.now question.now unit_of false_unit u) }
+    ensures unit { IfOk result (SaysFalse node.now question.now unit_of false_unit) }
     ensures stays { context.new ≡ context.old }
 {
     let error = false_error(alloc, node, question)?;
@@ -183,8 +181,7 @@ pub fn entries_unit<K>(
     pointer: SharedLocation,
     children: ChildList,
 ) -> Result<EvaluationNode, OutOfMemory>
-    ensures unit { IfOk result (λ u. (texts : Bool) (q : Asking) → kept.path ≡ q.path → kept.schema ≡ node.now.location
-        → pointer ≡ pointer_to q.place → unit_of texts u ≡ unit_around node.now q (map (unit_of texts) children)) }
+    ensures unit { IfOk result (IsUnitAround node.now kept pointer children) }
 {
     let places = places_by(alloc, node, kept, pointer)?;
     let valid = children.all_valid();
@@ -203,8 +200,7 @@ fn keyword_places<K>(
     context: &mut ValidationContext<'_>,
 ) -> Result<UnitPlaces, OutOfMemory>
     requires pointed { pointer.now ≡ pointer_here question.now }
-    ensures places { IfOk result (λ p. UnitStandsAt node.now (pointer_here question.now) (joined (path_here question.now) name.now)
-        (joined node.now.location name.now) p) }
+    ensures places { IfOk result (KeywordStandsAt node.now question.now name.now) }
     ensures stays { context.new ≡ context.old }
 {
     let kept = context.keyword_texts(alloc, question.path, name, &node.location)?;
@@ -306,8 +302,7 @@ pub fn units_of_reference(
     unit: EvaluationNode,
     context: &mut ValidationContext<'_>,
 ) -> Result<EntryUnits, OutOfMemory>
-    ensures units { IfOk result (λ units. (texts : Bool) (x : Where) → x.path ≡ path_here question.now
-        → entry_units_of texts units ≡ reference_units x name.now (unit_of texts unit)) }
+    ensures units { IfOk result (AreUnitsOfReference question.now name.now unit) }
     ensures stays { context.new ≡ context.old }
 {
     let evaluation_path = context.keyword_path(alloc, question.path, name.as_str())?;
