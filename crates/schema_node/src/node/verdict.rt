@@ -1,8 +1,8 @@
 //! Runs nodes over instances for the verdict alone.
 //!
 //! A level of an instance takes little stack space, because no reply is moved, only a truth value.
-//! That is why these functions form a cycle of their own: shared with the runs for errors, each
-//! level would hold room for errors.
+//! That is why these functions form a cycle of their own. If they were shared with the runs for
+//! errors, each level would hold room for errors.
 //!
 //! Only the functions of shared and guarded edges read and remember verdicts. The contracts state
 //! this for a node whose only entry is a guarded reference. They do not state it for what a
