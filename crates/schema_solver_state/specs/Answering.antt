@@ -1,4 +1,4 @@
--- How a solver begins: with nothing found. How a pair begins, and what becomes of it when its node
+-- How a solver begins: with nothing found. How a pair begins, and what happens to it when its node
 -- has been run and the pair is left.
 use Rattle.std.specs.Prelude.{[], Some, drop, false, take, true, ℕ, ◌++◌, ◌||◌, ◌∷◌, ◌≡◌, ◌⊎◌}
 use Rattle.serde_json.specs.declared.value.Value.{Value}

@@ -57,7 +57,7 @@ module _ (node : SchemaNode) (place : ℕ) (c : Solver) where
   abbrev pub IsLastAt : Type 0
   IsLastAt = EndsWith node.0 (place_in c place) c.in_progress
 
--- ---- what becomes of a pair
+-- ---- what happens to a pair
 
 module _ (node : SchemaNode) (place : ℕ) (old new : Solver) where
   -- it is begun

@@ -1,8 +1,8 @@
-//! The state of a solver: pairs in progress, pairs assumed to be valid, and known verdicts.
+//! The state of a solver: pairs in progress or assumed, and known verdicts.
 //!
-//! One call decides what happens to a pair. So a verdict that is forgotten, or one that is settled
-//! although it depends on an assumption, is refused where it would be written. The context on which a
-//! verdict depends counts the pairs that were begun: a call that returned the number could return a
+//! One call, `keep_answer`, decides what happens to a pair. So the proof of that call fails if it
+//! forgets a verdict, or settles one that depends on an assumption. The context on which a verdict
+//! depends counts the pairs that were begun. A call that returned the number itself could return a
 //! smaller one.
 ghost use Rattle.std.specs.Prelude.{◌≡◌, ◌<◌, ◌≤◌, []};
 ghost use Rattle.std.specs.Prelude.{All, IfOk, IfSome, None, OnErr, OnOk, false, true, ℕ};
@@ -326,7 +326,7 @@ impl<'i> SolverContext<'i> {
         Ok(())
     }
 
-    /// Keeps the answer of a pair's node, and returns the answer of the pair from then on.
+    /// Keeps the answer of a pair's node, and returns the answer of the pair.
     ///
     /// The pair has been left before. The mark is the one that `enter` returned; nothing that was
     /// assumed since may have been assumed before it too.
@@ -392,7 +392,7 @@ impl<'i> SolverContext<'i> {
         Ok(said)
     }
 
-    /// Returns whether the keyword's run at work has marked this already, and marks it if not.
+    /// Marks this, and returns whether the keyword's run has marked it before.
     ///
     /// The same mark is the same request, or, by the edges of its children, a child that leads to
     /// the same number and is guarded alike.
@@ -430,7 +430,7 @@ impl<'i> SolverContext<'i> {
         mem::replace(&mut self.marking, Marks::new(alloc))
     }
 
-    /// Restores marks that were set aside, in place of those of the run that has ended.
+    /// Replaces the marks of the run that has ended by those set aside.
     pub fn put_back(&mut self, aside: Marks)
         ensures back { self.new.marking ≡ aside }
         ensures frame { OnlyMarks self.old self.new }
@@ -438,7 +438,9 @@ impl<'i> SolverContext<'i> {
         self.marking = aside;
     }
 
-    /// Returns how many pairs were begun. The count stops at the greatest `u64`.
+    /// Returns how many pairs were begun.
+    ///
+    /// The count stops at the greatest `u64`.
     pub fn begun(&self) -> u64
         ensures begun { result ≡ self.now.begun }
     {

@@ -15,8 +15,9 @@ use schema_traits::{Edge, SchemaNode};
 use std::alloc::Global;
 use std::marker::Model;
 
-/// How many nodes a final number may take to evaluate to be inlined although several edges lead to
-/// it.
+/// The greatest weight of an inlined number that several edges lead to.
+///
+/// Such a number is final. Its weight is how many nodes it takes at most to evaluate it.
 pub const MOST_NODES: u8 = 254;
 
 /// The numbers of nodes that a solver inlines.
@@ -145,7 +146,9 @@ impl Followed {
         Ok(Followed { numbers })
     }
 
-    /// Returns whether a number is inlined; `false` if it is not one of these nodes.
+    /// Returns whether a number is inlined.
+    ///
+    /// The result is `false` if it is not one of these nodes.
     pub fn is_followed(&self, node: SchemaNode) -> bool
         ensures followed { result ≡ slice_index_or self.now node.0 false }
     {

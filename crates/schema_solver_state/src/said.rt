@@ -1,10 +1,10 @@
 //! A solver's verdict on a question, which may be provisional.
 //!
-//! A verdict takes one byte, and two with the tag of a result. When it took three with the tag, and
-//! each call of the solver returned it so, that was 3 % of the cost of a verdict. Now the solver's
-//! calls return `Told`.
+//! A verdict takes one byte, and two with the tag of a result. When it took three with the tag and
+//! each call of the solver returned it, this made up 3 % of a verdict's cost. Now the calls of the
+//! solver return `Told`.
 //!
-//! A "valid" is provisional or it is not; the lowest depth of what it depends on is not kept. With
+//! A "valid" is provisional or not; the lowest depth of what it depends on is not kept. With
 //! that depth, a cycle that is entered beside another pair at its place would be settled sooner,
 //! but few schemas have such a cycle.
 ghost use Rattle.std.specs.Prelude.{◌≡◌};
@@ -23,7 +23,7 @@ enum Answer {
 /// A verdict so far, and whether it is provisional.
 ///
 /// A provisional verdict depends on a pair that counts as valid for now, because it is in progress
-/// or assumed. Only a "valid" is provisional; an "invalid" is final, whatever becomes of such a
+/// or assumed. Only a "valid" is provisional. An "invalid" is final, whatever happens to such a
 /// pair.
 #[derive(Drop)]
 pub struct Said {
