@@ -29,8 +29,8 @@ abbrev pub edge_needs : {K : Type 0} → (NodeEdge → Bool) → Nodes K → ℕ
 edge_needs cut nodes count e s busy = elim (cut e) [ true ↦ pair_needs nodes count e.node s busy | false ↦ suc (left nodes count e.node s busy) ]
 
 -- all entries have the verdict of the remaining ones, for answers that agree with what is known
--- and, if `leans` is set, are yes for the pairs that count as valid for now. For any answers, all
--- entries refuse if the remaining ones do
+-- and, if `leans` is set, are "valid" for the pairs that count as valid for now. For any answers,
+-- all entries refuse if the remaining ones do
 pub record SaysTheRest {K R : Type 0} (w : Solving K R) (p : Place) (f : Found) (leans : Bool) (all rest : List (NodePart K)) : Type 0 where
   pub same : (answers : EdgeAnswers) → Fits f leans answers → parts_by w p answers all ≡ parts_by w p answers rest
   pub refuses : (answers : EdgeAnswers) → parts_by w p answers rest ≡ false → parts_by w p answers all ≡ false
@@ -41,7 +41,7 @@ abbrev pub TellsWhatItAsks : {K R : Type 0} → Setting K R → Subject → K �
 TellsWhatItAsks g s m a = (texts : Bool) → MayTell texts (g.is_whole m) s → HoldsAsTold (g.words texts) m s a
 
 -- the keyword has the verdict of the remaining questions, for answers that agree with what is known
--- and, if all questions have to accept and `leans` is set, are yes for the pairs that count as
+-- and, if all questions have to accept and `leans` is set, are "valid" for the pairs that count as
 -- valid for now. For any answers, the keyword has the verdict `not all` if the remaining questions
 -- have it
 pub record SaysByTheRest {K R : Type 0} (w : Solving K R) (p : Place) (f : Found) (m : K) (es : Children) (all leans : Bool) (rest : List Question) : Type 0 where

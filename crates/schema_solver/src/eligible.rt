@@ -1,7 +1,7 @@
 //! The solver of some nodes, and the verdicts that it finds.
 //!
-//! Matches that stay unfinished are left to the guarded run, because a solver meets other matches than
-//! that run does.
+//! The solver is used only if the matcher finishes every match, because a solver meets other
+//! matches than the guarded run does.
 ghost use Rattle.std.specs.Prelude.{◌≡◌, ◌<◌, ◌+◌, ◌&&◌, [], IfOk, IfSome, None, OnErr, false, is_some, length, true};
 ghost use Rattle.serde_json.specs.View.{view};
 ghost use Rattle.schema_solver_state.specs.Following.{IsFollowing};
@@ -104,7 +104,7 @@ impl Solver {
         }
     }
 
-    /// Returns the verdict of a node of the instance, with the context in which it was found.
+    /// Returns a node's verdict, with the context in which it was found.
     ///
     /// It returns `None` if this solver finds no verdict, if the matcher is not said to finish
     /// every match, or if the solver gives up, which it never does if each keyword says that it is

@@ -1,10 +1,10 @@
 //! The verdict of a node by a solver.
 //!
-//! What the solver finds holds for all answers of the edges that agree with what is known. A `yes` that
-//! depends on an assumption holds under it. So no step has to know why a pair was answered. The
-//! definition is by edges: in a run, a guarded edge to a node in progress is answered, and an edge
-//! without a guard is evaluated. Each call has a context of its own, so nothing that it finds reaches
-//! the next call.
+//! What the solver finds holds for all answers of the edges that agree with what is known. A
+//! "valid" that depends on an assumption holds under that assumption. So no step has to know why a
+//! pair was answered. The definition is by edges: in a run, a guarded edge to a node in progress is
+//! answered, and an edge without a guard is evaluated. Each call has a context of its own, so
+//! nothing that it finds reaches the next call.
 ghost use Rattle.std.specs.Prelude.{◌<◌, ◌≡◌, length};
 ghost use Rattle.schema_traits.specs.MatcherViews.{FinishesEach};
 ghost use Rattle.schema_solver.specs.Calls.{SolvesRoot};

@@ -1,9 +1,9 @@
 //! A solver's answer to a question: a verdict, or the reason why it stopped.
 //!
-//! All of it is one byte. An answer in two registers would be put together after each last call of
-//! a function. An answer in one byte is returned as it is, so the call is a jump and reuses the
-//! caller's stack frame. A verdict of members takes one frame less a level then, and costs 7 % less
-//! in all.
+//! An answer takes one byte. If it took two registers, a function would have to put it together
+//! after its last call. An answer in one byte is returned as it is, so that last call is a jump and
+//! reuses the caller's stack frame. Thus a verdict of members takes one frame less for each level,
+//! and costs 7 % less in all.
 ghost use Rattle.std.specs.Prelude.{◌≡◌, Err, Ok};
 ghost use Rattle.schema_solver_state.specs.Saying.{said_as, settled_as};
 ghost use Rattle.schema_solver.specs.Telling.{ends_with, leans_in};
@@ -64,7 +64,9 @@ impl Told {
         Told::settled(valid)
     }
 
-    /// Returns the answer with this verdict. Only a "valid" can be provisional.
+    /// Returns the answer with this verdict.
+    ///
+    /// Only a "valid" can be provisional.
     #[inline(always)]
     pub(crate) fn said(said: Said) -> Told
         ensures told { result ≡ Ok (said_as said.valid said.leans) }
@@ -100,9 +102,9 @@ impl Told {
         }
     }
 
-    /// Returns whether nothing more is evaluated if each answer has to have this verdict.
+    /// Returns whether the evaluation ends if all answers need this verdict.
     ///
-    /// It is so if the answer has the other verdict, or none.
+    /// It ends if this answer has the other verdict, or none.
     #[inline(always)]
     pub(crate) fn ends(&self, all: bool) -> bool
         ensures ends { result ≡ ends_with self.now all }

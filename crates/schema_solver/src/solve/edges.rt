@@ -1,4 +1,4 @@
-//! The verdict of an edge's target, and of a pair about which something may be known, by a solver.
+//! The verdicts of edges' targets and of pairs, by a solver.
 ghost use Rattle.std.specs.Prelude.{◌≡◌, ◌<◌, ◌≤◌, ℕ, IfErr, OnOk, Some};
 ghost use Rattle.schema_solver.specs.Solved.{a_pair, the_child, the_edge};
 ghost use Rattle.schema_solver.specs.Calls.{Answers, CanAsk, PairMayBegin};
