@@ -23,8 +23,8 @@ module _ {C Run K M : Type 0} (keywords : KeywordMembers C Run K) (matchers : Ma
   abbrev pub Begins : Call → Type 0
   Begins call = RunMeets keywords matchers p instance (mode_of call []) (starting []) first
 
-  -- how much its runs take, for each call for which the first run was made, if its further runs
-  -- produce all errors
+  -- how much the runs of a call take, for each call for which the first run was made, if its
+  -- further runs produce all errors
   abbrev pub TakesAsBegun : Budget → Budget → Type 0
   TakesAsBegun old new = (call : Call) → WantsAllLater call → Begins call → TakesByRuns keywords matchers p instance call old new
 

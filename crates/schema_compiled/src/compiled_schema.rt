@@ -1,7 +1,7 @@
 //! Compiled schemas, and the answers of their runs and of their solver.
 //!
-//! `validate` and `iter_errors` find the verdict first if the matcher finishes every match: a run for a
-//! verdict takes two thirds of the time of a run for errors.
+//! `validate` and `iter_errors` find the verdict first if the matcher finishes every match, because
+//! a run for a verdict takes two thirds of the time of a run for errors.
 ghost use Rattle.std.specs.Prelude.{◌≡◌, ◌&&◌, ◌<◌, ◌≤◌, [], false, true, None, Option, IfOk, All, IfSome, IsSome, OnErr, OnOk};
 ghost use Rattle.std.specs.Prelude.{is_some, length, slice_get};
 ghost use Rattle.schema_traits.specs.Showing.{Shows};
@@ -169,7 +169,9 @@ impl<K: Validate, M: Matcher> CompiledSchema<K, M> {
         &self.nodes
     }
 
-    /// States that the root is a node, and that unguarded edges fall in rank. Does nothing when it runs.
+    /// States that the root is a node, and that unguarded edges fall in rank.
+    ///
+    /// Does nothing when it runs.
     pub fn assert_ranked(&self)
         ensures inside { self.now.root < length self.now.nodes }
         ensures ranked { Ranked (numbered K.shape self.now.nodes) (length self.now.nodes) }
@@ -242,7 +244,7 @@ impl<K: Validate, M: Matcher> CompiledSchema<K, M> {
         }
     }
 
-    /// Returns the verdict of the root's node as the solver finds it, with its context.
+    /// Returns the solver's verdict of the root's node, with its context.
     ///
     /// Nothing is assumed of unfinished matches. It returns `None` if there is no solver, if the
     /// matcher may leave a match unfinished, or if the solver gives up.
@@ -410,7 +412,7 @@ impl<K: Validate, M: Matcher> CompiledSchema<K, M> {
         Ok(shared)
     }
 
-    /// Returns the first error that all outcomes of the unfinished matches share, if there is one.
+    /// Returns the first error that all outcomes of matches share, if any.
     ///
     /// If the matcher finishes every match, the call looks for the verdict first. If the first run
     /// meets an unfinished match, the further runs produce all errors.
@@ -443,7 +445,7 @@ impl<K: Validate, M: Matcher> CompiledSchema<K, M> {
         Ok(first_of(shared))
     }
 
-    /// Returns the errors that all outcomes of the unfinished matches share, in order.
+    /// Returns the errors that all outcomes of matches share, in order.
     ///
     /// If the matcher finishes every match, the call looks for the verdict first.
     ///
