@@ -1,5 +1,5 @@
--- The promises of a build and of a map, one record for each outcome, over the parts, the checks of the meta validators, the options,
--- and the schema. (Core 2020-12, 8.2)
+-- The promises of a build and of a map, one record for each outcome, over the parts, the checks of
+-- the meta validators, the options, and the schema. (Core 2020-12, 8.2)
 use Rattle.std.specs.Prelude.{ℕ}
 use Rattle.serde_json.specs.Data.{Data}
 use Rattle.schema_keys.specs.Checking.{MetaChecks}
@@ -18,6 +18,7 @@ use Rattle.schema_compiled.specs.Solved.{HasSolver}
 module _ {S K R C M : Type 0} (h : Handed S K R C M) (refuses : MetaChecks) (options : Options) (schema : Data) where
   -- ---- a validator that is built of a schema
 
+  -- the validator of a build, with this limit on nested targets
   pub record IsBuilt (nested : ℕ) (p : Program C M) : Type 0 where
     -- it means the plain meaning of schema and parts, if no chain of references returns
     pub means : MeansPlainly h options schema p
@@ -29,8 +30,8 @@ module _ {S K R C M : Type 0} (h : Handed S K R C M) (refuses : MetaChecks) (opt
     pub units_point : UnitsPointPlainly h options schema p
     -- if keywords are monotone, its nodes accept as the greatest solution of the schema does
     pub greatest : AcceptsAsSchema h options schema p
-    -- its nodes are those of the keys that the root's key reaches, with this limit on nested targets; its draft is the root's, and its
-    -- matcher answers as the one of the parts
+    -- its nodes are those of the keys that the root's key reaches, with this limit on nested
+    -- targets; its draft is the root's, and its matcher answers as the one of the parts
     pub program : IsCompiledFrom h options schema nested p
     -- it has a solver
     pub solver : HasSolver p
@@ -41,38 +42,43 @@ module _ {S K R C M : Type 0} (h : Handed S K R C M) (refuses : MetaChecks) (opt
 
   -- the error of a refused build
   pub record IsRefused (e : BuildError) : Type 0 where
-    -- it names a cause that holds of schema and parts, or a document that the meta validators refuse
+    -- it names a cause that holds of schema and parts, or a document that the meta validators
+    -- refuse
     pub refused : BuildRefused h refuses options schema e
-    -- of several causes it names the first
+    -- if there are several causes, it names the first
     pub first : FirstOfBuild h refuses options schema e
 
   -- ---- a map that is built of a schema's document
 
+  -- the validators of a map, each under its name
   pub record IsMapBuilt (es : Entries (Program C M)) : Type 0 where
     -- it holds exactly the names of what compiles
     pub holds : HoldsCompiled h options schema es
-    -- each validator means the plain meaning of the key of its place, if no chain of references returns
+    -- each validator means the plain meaning of the key of its place, if no chain of references
+    -- returns
     pub means : EachMeansPlainly h options schema es
-    -- it has the units of that meaning
+    -- each has the units of that meaning
     pub units : EachHasPlainUnits h options schema es
-    -- its errors point from that key
+    -- the errors of each point from that key
     pub points : EachPointsPlainly h options schema es
-    -- so do its units
+    -- so do the units of each
     pub units_point : EachsUnitsPoint h options schema es
-    -- if keywords are monotone, its nodes accept as the greatest solution of that key does
+    -- if keywords are monotone, the nodes of each accept as the greatest solution of that key does
     pub greatest : EachAcceptsGreatest h options schema es
-    -- it has a solver
+    -- each has a solver
     pub solver : EachHasSolver h options schema es
-    -- its nodes are those of the keys that its own key reaches, which are within the limit
+    -- the nodes of each are those of the keys that its own key reaches, which are within the limit
     pub programs : EachIsCompiledFrom h options schema es
-    -- each object or boolean of the document that compiles has a validator of its own key under its own name
+    -- each object or boolean of the document that compiles has a validator of its own key under its
+    -- own name
     pub at_each : HoldsEach h options schema es
-    -- the root has one key, whose vocabularies are declared, and the meta validators accept each document of the schema
+    -- the root has one key, whose vocabularies are declared, and the meta validators accept each
+    -- document of the schema
     pub builds : MapIsBuilt h options schema refuses
 
   -- the error of a refused map
   pub record IsMapRefused (e : BuildError) : Type 0 where
     -- it names why there is no map
     pub refused : MapRefused h options schema refuses e
-    -- of several causes it names the first
+    -- if there are several causes, it names the first
     pub first : FirstOfMap h refuses options schema e

@@ -1,7 +1,7 @@
 //! Validators of compiled nodes.
 //!
-//! That the nodes were compiled from the root's key is a premise inside the clauses. A caller who cannot
-//! show it loses only what the clauses promise.
+//! The clauses about meaning and units assume that the nodes were compiled from the root's key. A
+//! caller who cannot show this may still call, but gets nothing from those clauses.
 ghost use Rattle.std.specs.Prelude.{◌≡◌, ◌<◌, ◌≤◌, IfOk, length};
 ghost use Rattle.schema_drafts.specs.KeywordViews.{draft_of};
 ghost use Rattle.schema_validator.specs.Called.{HasUnitsAsCompiled, MeansAsCompiled};
@@ -15,9 +15,14 @@ use schema_reports::OutOfMemory;
 use schema_solver::Solver;
 use schema_traits::{KeywordTable, Matcher, Resolver, SchemaNode, Validate};
 
-/// Builds a validator from compiled nodes, the number of a key's node, and a clone of the matcher.
+/// Builds a validator from compiled nodes and a clone of the matcher.
 ///
-/// The validator means that key if the nodes are compiled from it and no chain of references returns.
+/// `root` is the number of a key's node. The validator means that key, if the nodes are compiled
+/// from it and no chain of references returns.
+///
+/// # Errors
+///
+/// Out of memory.
 pub(crate) fn of_compiled_within<S: Resolver, T: KeywordTable<K>, K: Validate, M: Matcher>(
     table: &T,
     resolver: &S,

@@ -44,7 +44,7 @@ impl<K: Validate, M: Drop> ValidatorMap<K, M> {
         }
     }
 
-    /// Inserts a validator at a pointer, and replaces the one that is there, if any.
+    /// Inserts a validator at a pointer, in place of the one there, if any.
     ///
     /// # Errors
     ///

@@ -1,7 +1,7 @@
 //! Validators: compiled schemas that validate instances.
 //!
-//! `is_valid` returns no context, and so no count. `solve` evaluates what `is_valid` does, by the same
-//! function.
+//! `is_valid` returns no context, and so no count of pairs. `solve` evaluates the same nodes, by
+//! the same function.
 ghost use Rattle.std.specs.Prelude.{◌≡◌, ◌↔◌, ◌<◌, ◌≤◌, true, None, IfOk, OnErr, length, OnOk};
 ghost use Rattle.serde_json.specs.View.{view};
 ghost use Rattle.theory_definitions.specs.Cover.{evaluate, is_valid, iter_errors, validate};
@@ -172,7 +172,8 @@ impl<K: Validate, M: Matcher> Validator<K, M> {
         is_monotone(self.nodes())
     }
 
-    // States that the root is a node, and that unguarded edges fall in rank. Does nothing when it runs.
+    // States that the root is a node, and that unguarded edges fall in rank. Does nothing when it
+    // runs.
     fn assert_ranked(&self)
         ensures inside { self.now.root < length self.now.nodes }
         ensures ranked { Ranked (numbered K.shape self.now.nodes) (length self.now.nodes) }
@@ -180,7 +181,7 @@ impl<K: Validate, M: Matcher> Validator<K, M> {
         self.schema.assert_ranked();
     }
 
-    /// Like `is_valid`, but spends at most `work` steps, and deducts them from it.
+    /// Like `is_valid`, but takes its steps from `work`, and no more.
     ///
     /// `ValidationOptions::with_work_limit` says what a step is. Each run that it makes for
     /// unfinished matches after the first takes at least one step. It is not stopped if the matcher
@@ -211,7 +212,7 @@ impl<K: Validate, M: Matcher> Validator<K, M> {
         Ok(answer?)
     }
 
-    /// Returns the verdict that the solver finds, with the context in which it found it.
+    /// Returns the verdict that the solver finds, with its context.
     ///
     /// It returns `None` if the validator has no solver, or if the solver gives up. The solver
     /// gives up if a keyword that does not say that it is monotone gets a provisional "valid", one
@@ -248,7 +249,7 @@ impl<K: Validate, M: Matcher> Validator<K, M> {
         self.solve_within(alloc, instance, &mut work)
     }
 
-    /// Like `solve`, but begins at most `work` pairs, and deducts them from it.
+    /// Like `solve`, but takes one step from `work` for each pair that begins.
     ///
     /// If the call is stopped, one pair more than `work` allowed is within the bound g * p * g of
     /// `solve`. So if `work` allows that many or more, the call is not stopped. If each keyword
@@ -281,7 +282,7 @@ impl<K: Validate, M: Matcher> Validator<K, M> {
         self.schema.solved(alloc, true, instance, work)
     }
 
-    /// Like `validate`, but spends at most `work` steps, and deducts them from it.
+    /// Like `validate`, but takes its steps from `work`, and no more.
     ///
     /// Each run that it makes for unfinished matches after the first takes at least one step.
     ///
@@ -309,7 +310,7 @@ impl<K: Validate, M: Matcher> Validator<K, M> {
         Ok(unless_refused(answer?))
     }
 
-    /// Like `iter_errors`, but spends at most `work` steps, and deducts them from it.
+    /// Like `iter_errors`, but takes its steps from `work`, and no more.
     ///
     /// Each run that it makes for unfinished matches after the first takes at least one step.
     ///
@@ -337,7 +338,7 @@ impl<K: Validate, M: Matcher> Validator<K, M> {
         Ok(ErrorIterator::new(answer?))
     }
 
-    /// Like `evaluate`, but spends at most `work` steps, and deducts them from it.
+    /// Like `evaluate`, but takes its steps from `work`, and no more.
     ///
     /// Each run that it makes for unfinished matches after the first takes at least one step.
     ///

@@ -64,11 +64,12 @@ impl ValidationOptions {
         )
     }
 
-    /// Like `build`, but with this limit on targets of references compiled one inside another.
+    /// Like `build`, but with this limit on nested targets.
     ///
-    /// The limit decides how much stack the build takes, and which edges of a reference cycle are
-    /// guarded. If no chain of references returns, it changes no answer except the site of a
-    /// failure. If each keyword is monotone, it changes no verdict of a call that decides.
+    /// Nested targets are targets of references that are compiled one inside another. The limit
+    /// decides how much stack the build takes, and which edges of a reference cycle are guarded. If
+    /// no chain of references returns, it changes no answer except the site of a failure. If each
+    /// keyword is monotone, it changes no verdict of a call that decides.
     ///
     /// # Errors
     ///

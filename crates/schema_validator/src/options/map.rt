@@ -1,7 +1,7 @@
 //! Building the map of a document's validators.
 //!
-//! An entry is compiled as a subschema of the root by itself. Its own vocabularies are not checked; those
-//! of the root are, once.
+//! Each entry is compiled by itself, as a subschema of the root. The root's vocabularies are
+//! checked once, and those of the entries are not checked.
 ghost use Rattle.std.specs.Prelude.{◌≡◌, IfOk, IfErr, Some, string_bytes};
 ghost use Rattle.serde_json.specs.View.{view};
 ghost use Rattle.schema_keys.specs.Alone.{RefusesKeyAlone};
@@ -73,8 +73,7 @@ impl ValidationOptions {
     }
 }
 
-/// The input of a map's build: the allocator, the schema, the options, the parts, and the root's
-/// key.
+/// The input of a map's build, with the root's key.
 #[derive_where(Clone, Copy)]
 struct MapBuilding<'p, S: Resolver, T, M> {
     alloc: Global,
@@ -87,7 +86,7 @@ struct MapBuilding<'p, S: Resolver, T, M> {
 }
 
 impl<'p, S: Resolver, T, M: Matcher> MapBuilding<'p, S, T, M> {
-    /// Returns the map, once the schema is accepted and the root's vocabularies are declared.
+    /// Checks the schema and the root's vocabularies, and returns the map.
     #[tactic(auto, using(crate::proofs::RootRefusals::memory_refuses_map))]
     fn checked_map<K: Validate, V: MetaValidators>(
         &self,
@@ -139,7 +138,7 @@ impl<'p, S: Resolver, T, M: Matcher> MapBuilding<'p, S, T, M> {
         })
     }
 
-    /// Returns the key of the schema at a path below the root: the root's own, or a subschema's.
+    /// Returns the key of the root, or of the subschema at a path below it.
     fn key_at(&self, path: &SchemaPath) -> Result<SchemaKey<S::State>, BuildError>
         ensures key { IfOk result (λ k. key_below S.Resolver self.now path.now ≡ Some (key_of S.point k)) }
         ensures refused { IfErr result (RefusesKeyAlone (key_below S.Resolver self.now path.now)) }
@@ -206,7 +205,7 @@ impl<'p, S: Resolver, T, M: Matcher> MapBuilding<'p, S, T, M> {
         self.compiled(key)
     }
 
-    /// Returns the validator at a path, or none if that schema does not compile.
+    /// Returns the validator at a path; `None` if that schema does not compile.
     fn entry_if_compiled<K: Validate>(
         &self,
         path: &SchemaPath,
@@ -236,7 +235,7 @@ impl<'p, S: Resolver, T, M: Matcher> MapBuilding<'p, S, T, M> {
         Ok(name)
     }
 
-    /// Adds the validator at a path to the map, unless that schema does not compile.
+    /// Adds the validator at a path to the map, if that schema compiles.
     fn put<K: Validate>(
         &self,
         map: &mut ValidatorMap<K, M>,
