@@ -13,7 +13,7 @@ use Rattle.schema_validator.specs.Handed.{Handed, Options}
 use Rattle.schema_engine.specs.GreatestCalls.{DecidesGreatest, ErrorsGreatest, EvaluatesGreatest, FirstGreatest}
 
 module _ {S K R C M : Type 0} (h : Handed S K R C M) (refuses : MetaChecks) (options : Options) (schema instance : Data) where
-  -- the schema is one that builds
+  -- the schema builds
   pub record IsAllowed : Type 0 where
     -- there is no cause to refuse what the root reaches, and that is within the limit
     pub builds : SchemaBuilds h options schema
@@ -26,7 +26,8 @@ module _ {S K R C M : Type 0} (h : Handed S K R C M) (refuses : MetaChecks) (opt
     pub answer : DecidesPlainly h options schema instance valid
     -- it is the one of nodes compiled from the schema, from some depth on
     pub guarded : DecidesGuardedly h options schema instance valid
-    -- if keywords are monotone and the call decides, it is yes exactly if the greatest solution accepts
+    -- if keywords are monotone and the call decides, it is `true` exactly if the greatest
+    -- solution accepts
     pub greatest : DecidesGreatest h options schema instance valid
     pub allowed : IsAllowed
 
@@ -36,7 +37,8 @@ module _ {S K R C M : Type 0} (h : Handed S K R C M) (refuses : MetaChecks) (opt
     pub answer : FirstPlainly h options schema instance o
     -- it is the one of nodes compiled from the schema, from some depth on
     pub guarded : FirstGuardedly h options schema instance o
-    -- if keywords are monotone and the call decides, there is none exactly if the greatest solution accepts
+    -- if keywords are monotone and the call decides, there is none exactly if the greatest
+    -- solution accepts
     pub greatest : FirstGreatest h options schema instance o
     -- it points at a keyword that its evaluation path leads to, and at a value inside the instance
     pub leads : FirstLeads h options schema instance o
@@ -50,9 +52,11 @@ module _ {S K R C M : Type 0} (h : Handed S K R C M) (refuses : MetaChecks) (opt
     pub answer : ErrorsPlainly h options schema instance es
     -- they are those of nodes compiled from the schema, from some depth on
     pub guarded : ErrorsGuardedly h options schema instance es
-    -- if keywords are monotone and the call decides, there is none exactly if the greatest solution accepts
+    -- if keywords are monotone and the call decides, there is none exactly if the greatest
+    -- solution accepts
     pub greatest : ErrorsGreatest h options schema instance es
-    -- each points at a keyword that its evaluation path leads to, and at a value inside the instance
+    -- each points at a keyword that its evaluation path leads to, and at a value inside the
+    -- instance
     pub leads : EachLeads h options schema instance es
     -- each has the value at its place in the instance
     pub borrows : All (BorrowsItsPlace instance) es
@@ -60,16 +64,19 @@ module _ {S K R C M : Type 0} (h : Handed S K R C M) (refuses : MetaChecks) (opt
 
   -- the evaluation
   pub record IsEvaluation (u : EvaluationNode) : Type 0 where
-    -- its verdict is the one of the plain meaning, and so are the errors that its units are made of, if no chain of references returns
+    -- its verdict is the one of the plain meaning, and the errors that its units are made of are
+    -- those of that meaning, if no chain of references returns
     pub answer : EvaluatesPlainly h options schema instance u
-    -- they are those of nodes compiled from the schema, from some depth on
+    -- verdict and errors are those of nodes compiled from the schema, from some depth on
     pub guarded : EvaluatesGuardedly h options schema instance u
-    -- if keywords are monotone and the call decides, it is valid exactly if the greatest solution accepts
+    -- if keywords are monotone and the call decides, it is valid exactly if the greatest
+    -- solution accepts
     pub greatest : EvaluatesGreatest h options schema instance u
     -- if no match stays unfinished, its units are those of the plain meaning
     pub plain_units : UnitsPlainly h options schema instance u
     -- if no match stays unfinished, its units are those of nodes compiled from the schema
     pub units : UnitsGuardedly h options schema instance u
-    -- each error in a unit points at a keyword that the unit's evaluation path leads to, and at a value inside the instance
+    -- each error in a unit points at a keyword that the unit's evaluation path leads to, and at a
+    -- value inside the instance
     pub leads : UnitsLead h options schema instance u
     pub allowed : IsAllowed
