@@ -5,6 +5,7 @@ use Rattle.schema_reports.specs.ReportViews.{BorrowsItsPlace}
 use Rattle.schema_traits.specs.FaultViews.{PassesBorrowed, errors_in, faults_in}
 use Rattle.schema_traits.specs.declared.keyword.Answer.{Answer}
 use Rattle.schema_traits.specs.declared.keyword.Reply.{Reply}
+use Rattle.schema_traits.specs.declared.keyword.Fault.{Fault}
 
 -- each error that the new answer passes on borrows its place, if each of the old answer does
 abbrev pub KeepsBorrows : Answer → Answer → Type 0
@@ -21,3 +22,7 @@ Retains old new result = IfOk result (λ _. KeepsBorrows old new)
 -- if the result is `Ok`, then `TakesBorrows`
 abbrev pub Borrows : {A E : Type 0} → Reply → Answer → Answer → Result A E → Type 0
 Borrows reply old new result = IfOk result (λ _. TakesBorrows reply old new)
+
+-- an error that is passed on borrows its place
+abbrev pub AlwaysBorrows : Fault → Type 0
+AlwaysBorrows fault = (root : Data) → PassesBorrowed root fault

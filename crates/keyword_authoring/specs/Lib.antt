@@ -27,3 +27,6 @@ pub mod WayVerdicts
 pub mod Plans
 pub mod WayGrows
 pub mod WantedCounts
+pub mod PassingWords
+pub mod FaultWords
+pub mod UnitWords

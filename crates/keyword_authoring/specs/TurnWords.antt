@@ -1,6 +1,6 @@
 -- What a turn of some kind does: it leads from a run, an answer and a reply to the next run and
 -- answer, and takes a step.
-use Rattle.std.specs.Prelude.{Bool, IfOk, Result, ◌≡◌}
+use Rattle.std.specs.Prelude.{Bool, IfOk, Result, if◌then◌else◌, ◌≡◌}
 use Rattle.theory_definitions.specs.Instance.{Subject}
 use Rattle.theory_definitions.specs.Keywords as spec
 use Rattle.schema_reports.specs.InstanceViews.{subject_of}
@@ -13,7 +13,7 @@ use Rattle.schema_traits.specs.declared.keyword.Step.{Step}
 use Rattle.keyword_authoring.specs.declared.run.Progress.{Progress}
 use Rattle.keyword_authoring.specs.declared.run.Stage.{Stage}
 use Rattle.keyword_authoring.specs.OwnWays.{spoken_way}
-use Rattle.keyword_authoring.specs.Ways.{Way, answer_after, way_step, way_turn}
+use Rattle.keyword_authoring.specs.Ways.{Way, answer_after, at_first, way_step, way_turn}
 
 -- the next run and answer, with texts covered or not
 abbrev pub TurnsIn : Bool → Way → Progress → Answer → Reply → Progress → Answer → Type 0
@@ -70,3 +70,9 @@ TellsTurnBy whole ways instance run old reply run' new result = IfOk result (λ 
 abbrev pub TellsStepBy : {E : Type 0} → Bool → (Bool → Subject → Way) → Instance → Progress → Answer → Reply → Result Step E → Type 0
 TellsStepBy whole ways instance run old reply result = IfOk result (λ step. (texts : Bool) → Tells texts whole (subject_of instance)
     → StepsIn texts (ways texts (subject_of instance)) run old reply (turn_of step))
+
+-- ---- by a run that asks nothing
+
+-- the errors are noted in the first turn only
+abbrev pub TellsIfFirst : Stage → Bool → Type 0
+TellsIfFirst stage first = (told answer : spec.Answer) → at_first stage told answer ≡ (if first then told else answer)

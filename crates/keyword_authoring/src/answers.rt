@@ -1,18 +1,15 @@
 //! Changes to the answer of a run.
-ghost use Rattle.std.specs.Prelude.{◌≡◌, ◌++◌, [], Bool, IfOk, map};
-ghost use Rattle.serde_json.specs.Data.{Data};
-ghost use Rattle.schema_reports.specs.ReportViews.{error_of};
-ghost use Rattle.theory_definitions.specs.Keywords.{passed};
+ghost use Rattle.std.specs.Prelude.{◌≡◌, ◌++◌, [], IfOk, map, OnOk};
 ghost use Rattle.schema_traits.specs.declared.keyword.Fault.TheVariants.{Passed};
-ghost use Rattle.schema_traits.specs.FaultViews.{faults_in, PassesBorrowed};
-ghost use Rattle.schema_traits.specs.KeywordViews.{answer_of, fault_of, reply_of};
+ghost use Rattle.schema_traits.specs.FaultViews.{faults_in};
 ghost use Rattle.keyword_authoring.specs.FaultLists.{first_kept};
 ghost use Rattle.keyword_authoring.specs.Tallies.{says_yes};
-ghost use Rattle.keyword_authoring.specs.Ways.{evaluated, goes_on, with_first};
-ghost use Rattle.keyword_authoring.specs.Borrowing.{KeepsBorrows, TakesBorrows, Borrows, Retains};
-ghost use Rattle.keyword_authoring.specs.AnswerWords.{Refuses, Notes, Takes, own_fault, Becomes};
+ghost use Rattle.keyword_authoring.specs.Ways.{goes_on};
+ghost use Rattle.keyword_authoring.specs.Borrowing.{KeepsBorrows, TakesBorrows, Borrows, Retains, AlwaysBorrows};
+ghost use Rattle.keyword_authoring.specs.AnswerWords.{Refuses, Notes, Takes};
 ghost use Rattle.schema_traits.specs.Readings.{Lists};
 ghost use Rattle.schema_traits.specs.Showing.{Shows};
+ghost use Rattle.keyword_authoring.specs.FaultWords.{AreErrorsOf, Evaluates, IsOfReply, IsOwnFault, PassesErrors, TakesFirst};
 
 use crate::units::{invalidate, with_unit};
 use schema_reports::{ErrorDescription, OutOfMemory, ValidationError};
@@ -47,7 +44,7 @@ fn refused<'i>(alloc: Global, answer: Answer<'i>) -> Answer<'i>
 
 /// Returns the answer with this error as its first, unless it has one already.
 fn with_first<'i>(answer: Answer<'i>, fault: Box<Fault<'i>>) -> Answer<'i>
-    ensures first { Becomes answer.entry (λ texts a. with_first a a.errors (fault_of texts fault.entry.value)) result }
+    ensures first { TakesFirst fault.entry.value answer.entry result }
     ensures faults { faults_in result ≡ first_kept (faults_in answer.entry) fault.entry.value }
 {
     match answer {
@@ -76,7 +73,7 @@ fn with_first<'i>(answer: Answer<'i>, fault: Box<Fault<'i>>) -> Answer<'i>
 }
 
 fn faults_of<'i>(alloc: Global, answer: Answer<'i>) -> Result<Vec<Fault<'i>>, OutOfMemory>
-    ensures errors { IfOk result (λ faults. (texts : Bool) → map (fault_of texts) faults.items ≡ (answer_of texts answer.entry).errors) }
+    ensures errors { IfOk result (λ faults. AreErrorsOf answer.entry faults.items) }
     ensures faults { Lists result (faults_in answer.entry) }
 {
     match answer {
@@ -103,7 +100,7 @@ fn evaluated<'i>(
     text: String,
     before: Answer<'i>,
 ) -> Result<Answer<'i>, OutOfMemory>
-    ensures evaluated { IfOk result (Becomes before.entry (λ texts a. evaluated a (own_fault texts keyword.now text))) }
+    ensures evaluated { IfOk result (Evaluates keyword.now text before.entry) }
     ensures faults { Shows faults_in result [] }
 {
     let mut found = before.into_evaluation(alloc)?;
@@ -136,7 +133,7 @@ pub fn note<'i>(
     text: String,
     answer: &mut Answer<'i>,
 ) -> Result<(), OutOfMemory>
-    ensures noted { IfOk result (λ _. Notes mode keyword.now text answer.old answer.new) }
+    ensures noted { OnOk result (Notes mode keyword.now text answer.old answer.new) }
     ensures borrows { Retains answer.old answer.new result }
 {
     let before = mem::replace(answer, Answer::Verdict(false));
@@ -194,8 +191,8 @@ fn with_own_last<'i>(
 
 /// Returns an error at the keyword itself.
 fn own_fault<'i>(alloc: Global, keyword: &str, text: String) -> Result<Fault<'i>, OutOfMemory>
-    ensures own { IfOk result (λ fault. (texts : Bool) → fault_of texts fault ≡ own_fault texts keyword.now text) }
-    ensures borrows { IfOk result (λ fault. (root : Data) → PassesBorrowed root fault) }
+    ensures own { IfOk result (IsOwnFault keyword.now text) }
+    ensures borrows { IfOk result AlwaysBorrows }
 {
     Ok(Fault::Own(OwnError {
         absorbed: None,
@@ -208,7 +205,7 @@ fn own_fault<'i>(alloc: Global, keyword: &str, text: String) -> Result<Fault<'i>
 
 /// Returns whether a run goes on after this reply.
 pub fn goes_on(reply: &Reply<'_>) -> bool
-    ensures goes_on { (texts : Bool) → result ≡ goes_on (reply_of texts reply.now) }
+    ensures goes_on { IsOfReply goes_on reply.now result }
 {
     match reply {
         Reply::Nothing => true,
@@ -221,7 +218,7 @@ pub fn goes_on(reply: &Reply<'_>) -> bool
 
 /// Returns whether a reply is an accepting verdict or a valid unit.
 pub fn says_yes(reply: &Reply<'_>) -> bool
-    ensures yes { (texts : Bool) → result ≡ says_yes (reply_of texts reply.now) }
+    ensures yes { IsOfReply says_yes reply.now result }
 {
     match reply {
         Reply::Nothing => false,
@@ -236,7 +233,7 @@ pub fn says_yes(reply: &Reply<'_>) -> bool
 ///
 /// An accepting verdict leaves the answer where it is.
 pub fn take<'i>(alloc: Global, reply: Reply<'i>, answer: &mut Answer<'i>) -> Result<(), OutOfMemory>
-    ensures taken { IfOk result (λ _. Takes reply.entry answer.old answer.new) }
+    ensures taken { OnOk result (Takes reply.entry answer.old answer.new) }
     ensures borrows { Borrows reply.entry answer.old answer.new result }
 {
     match reply {
@@ -257,7 +254,7 @@ fn take_told<'i>(
     reply: Reply<'i>,
     answer: &mut Answer<'i>,
 ) -> Result<(), OutOfMemory>
-    ensures taken { IfOk result (λ _. Takes reply.entry answer.old answer.new) }
+    ensures taken { OnOk result (Takes reply.entry answer.old answer.new) }
     ensures borrows { Borrows reply.entry answer.old answer.new result }
 {
     let before = mem::replace(answer, Answer::Verdict(false));
@@ -303,9 +300,8 @@ fn pass_all<'i>(
     errors: Vec<ValidationError<'i>>,
     faults: &mut Vec<Fault<'i>>,
 ) -> Result<(), OutOfMemory>
-    ensures passed { IfOk result (λ _. (texts : Bool) → map (fault_of texts) faults.new.items
-        ≡ map (fault_of texts) faults.old.items ++ map passed (map (error_of texts) errors.entry.items)) }
-    ensures added { IfOk result (λ _. faults.new.items ≡ faults.old.items ++ map Passed errors.entry.items) }
+    ensures passed { OnOk result (PassesErrors errors.entry.items faults.old.items faults.new.items) }
+    ensures added { OnOk result (faults.new.items ≡ faults.old.items ++ map Passed errors.entry.items) }
 {
     for error in errors {
         faults.push(Fault::Passed(error))?;

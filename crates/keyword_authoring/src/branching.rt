@@ -4,9 +4,9 @@
 //! verdict selects, and passes on its answer.
 ghost use Rattle.std.specs.Prelude.{◌≡◌};
 ghost use Rattle.schema_traits.specs.KeywordViews.{turn_of};
-ghost use Rattle.keyword_authoring.specs.Ways.{asked, branch_number, stage_at};
+ghost use Rattle.keyword_authoring.specs.Ways.{asked};
 ghost use Rattle.keyword_authoring.specs.TurnWords.{Turns, Steps};
-ghost use Rattle.keyword_authoring.specs.Branching.{branches_here, chosen_here};
+ghost use Rattle.keyword_authoring.specs.Branching.{branches_here, chosen_here, StandsAtBranch};
 ghost use Rattle.keyword_authoring.specs.Borrowing.{Borrows};
 
 use crate::answers::{says_yes, take};
@@ -22,7 +22,7 @@ fn ask_branch<'s>(
     refused: Option<usize>,
     run: &mut Progress,
 ) -> Step<'s>
-    ensures stage { run.new ≡ record run.old { stage = stage_at (branch_number accepts) (chosen_here accepts accepted refused) } }
+    ensures stage { StandsAtBranch accepts accepted refused run.old run.new }
     ensures step { turn_of result ≡ asked run.old.mode (chosen_here accepts accepted refused) }
 {
     let branch = if accepts { accepted } else { refused };

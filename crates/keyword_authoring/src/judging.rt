@@ -2,16 +2,11 @@
 //!
 //! Such a run asks numbered questions one after the other, and reports errors depending on how many
 //! are accepted.
-ghost use Rattle.std.specs.Prelude.{◌≡◌, ◌+◌, ℕ, Bool, IfOk, min, not};
-ghost use Rattle.theory_definitions.specs.Keywords.{Answer as AnswerOfRun, Question, Reply as ReplyOfRun};
-ghost use Rattle.schema_traits.specs.KeywordViews.{reply_of};
-ghost use Rattle.keyword_authoring.specs.Asking.{nth_at};
-ghost use Rattle.keyword_authoring.specs.Items.{child_here, each_from};
-ghost use Rattle.keyword_authoring.specs.Judging.{counted_of, judging_answer, judging_turn, kept_at};
-ghost use Rattle.keyword_authoring.specs.Judging.{JudgesAnswer, JudgesIn, JudgesStage, JudgesStep};
-ghost use Rattle.keyword_authoring.specs.Tallies.{Tally, asked_in, counted, is_settled, says_yes, wants_units};
-ghost use Rattle.keyword_authoring.specs.Ways.{asked, counted_at, judged_at, next_if, nth};
+ghost use Rattle.std.specs.Prelude.{◌≡◌, IfOk, min, OnOk};
+ghost use Rattle.keyword_authoring.specs.Tallies.{Tally, asked_in, counted, is_settled, wants_units};
 ghost use Rattle.keyword_authoring.specs.Borrowing.{Retains};
+ghost use Rattle.keyword_authoring.specs.Judging.{AnswersAtPlace, AsksAtPlace, CountsAnswer, CountsPlaceAfter, CountsStage, CountsStep, IsPlaceAfter};
+ghost use Rattle.keyword_authoring.specs.Judging.{JudgesAnywhere, JudgesHere, JudgesStageAnywhere, JudgesStageHere, JudgesStepAnywhere, JudgesStepHere, StandsAtPlace};
 
 use crate::answers::says_yes;
 use crate::run::{Progress, Stage};
@@ -91,10 +86,9 @@ fn judge_at(
     units: bool,
     run: &mut Progress,
 ) -> Judging
-    ensures stage { (f : ℕ → Question) → run.new ≡ record run.old { stage = counted_of (each_from f 0 count) accepted place } }
-    ensures step { (f : ℕ → Question) → judging_turn f result ≡ asked (asked_in units) (nth_at (each_from f 0 count) place) }
-    ensures answer { (f : ℕ → Question) (t : Tally) (m : Mode) (a : AnswerOfRun) → judging_answer t m a result
-        ≡ judged_at t m accepted a (nth_at (each_from f 0 count) place) }
+    ensures stage { StandsAtPlace count accepted place run.old run.new }
+    ensures step { AsksAtPlace count place units result }
+    ensures answer { AnswersAtPlace count accepted place result }
 {
     if let Some(place) = place {
         if place < count {
@@ -108,9 +102,8 @@ fn judge_at(
 
 #[tactic(auto, using(crate::proofs::EachQuestion::nth_each_past))]
 fn place_after(last: usize, count: usize, settled: bool) -> Option<usize>
-    ensures next { (f : ℕ → Question) → nth_at (each_from f 0 count) result ≡ next_if (not settled) (nth (last + 1) (each_from f 0 count)) }
-    ensures stage { (f : ℕ → Question) (n : ℕ) → counted_of (each_from f 0 count) n result
-        ≡ counted_at (last + 1) n (next_if (not settled) (nth (last + 1) (each_from f 0 count))) }
+    ensures next { IsPlaceAfter last count settled result }
+    ensures stage { CountsPlaceAfter last count settled result }
 {
     if settled {
         return None;
@@ -120,10 +113,9 @@ fn place_after(last: usize, count: usize, settled: bool) -> Option<usize>
 
 /// Counts a reply, which accepts or not, and returns what the turn does.
 fn count_on(judge: Judge, run: &mut Progress, yes: bool) -> Judging
-    ensures stage { (f : ℕ → Question) (r : ReplyOfRun) → yes ≡ says_yes r → JudgesStage judge f run.old r run.new }
-    ensures step { (f : ℕ → Question) (r : ReplyOfRun) → yes ≡ says_yes r → JudgesStep judge f run.old r result }
-    ensures answer { (f : ℕ → Question) (a : AnswerOfRun) (r : ReplyOfRun) → yes ≡ says_yes r
-        → JudgesAnswer judge f run.old r a result (kept_at run.old.stage a r) }
+    ensures stage { CountsStage judge yes run.old run.new }
+    ensures step { CountsStep judge yes run.old result }
+    ensures answer { CountsAnswer judge yes run.old result }
 {
     let units = wants_units(judge.shows, run.mode);
     match run.stage {
@@ -151,12 +143,9 @@ pub fn judge_on<'i>(
     reply: Reply<'i>,
     answer: &mut Answer<'i>,
 ) -> Result<Judging, OutOfMemory>
-    ensures stage { IfOk result (λ _. (texts : Bool) (f : ℕ → Question)
-        → JudgesStage judge f run.old (reply_of texts reply.entry) run.new) }
-    ensures step { IfOk result (λ judging. (texts : Bool) (f : ℕ → Question)
-        → JudgesStep judge f run.old (reply_of texts reply.entry) judging) }
-    ensures answer { IfOk result (λ judging. (texts : Bool) (f : ℕ → Question)
-        → JudgesIn judge f texts run.old reply.entry answer.old judging answer.new) }
+    ensures stage { OnOk result (JudgesStageAnywhere judge run.old reply.entry run.new) }
+    ensures step { IfOk result (JudgesStepAnywhere judge run.old reply.entry) }
+    ensures answer { IfOk result (JudgesAnywhere judge run.old reply.entry answer.old answer.new) }
     ensures borrows { Retains answer.old answer.new result }
 {
     let yes = says_yes(&reply);
@@ -174,10 +163,9 @@ pub fn judge_children<'i>(
     reply: Reply<'i>,
     answer: &mut Answer<'i>,
 ) -> Result<Judging, OutOfMemory>
-    ensures stage { IfOk result (λ _. (texts : Bool) → JudgesStage judge child_here run.old (reply_of texts reply.entry) run.new) }
-    ensures step { IfOk result (λ judging. (texts : Bool) → JudgesStep judge child_here run.old (reply_of texts reply.entry) judging) }
-    ensures answer { IfOk result (λ judging. (texts : Bool) → JudgesIn judge child_here texts run.old reply.entry answer.old judging
-        answer.new) }
+    ensures stage { OnOk result (JudgesStageHere judge run.old reply.entry run.new) }
+    ensures step { IfOk result (JudgesStepHere judge run.old reply.entry) }
+    ensures answer { IfOk result (JudgesHere judge run.old reply.entry answer.old answer.new) }
     ensures borrows { Retains answer.old answer.new result }
 {
     judge_on(alloc, judge, run, reply, answer)

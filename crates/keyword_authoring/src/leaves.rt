@@ -3,18 +3,17 @@
 //! An author says when such a keyword accepts, its name, and the texts of its errors. All laws
 //! follow. `crate::leaf` is the same for keywords with a single error, whose text shows no fraction
 //! of the schema.
-ghost use Rattle.std.specs.Prelude.{◌≡◌, Bool, IfOk, IfSome, List, false, length, map, string_bytes, true};
+ghost use Rattle.std.specs.Prelude.{◌≡◌, Bool, IfOk, IfSome, List, false, length, map, string_bytes, true, OnOk};
 ghost use Rattle.theory_definitions.specs.Instance.{Subject, Text};
 ghost use Rattle.schema_reports.specs.InstanceViews.{subject_of};
 ghost use Rattle.theory_definitions.specs.Keywords.{done};
-ghost use Rattle.schema_reports.specs.ReportViews.{spoken};
 ghost use Rattle.schema_traits.specs.KeywordViews.{is_nil, turn_of};
 ghost use Rattle.keyword_authoring.specs.OwnWays.{telling_ways};
-ghost use Rattle.keyword_authoring.specs.Ways.{noted};
-ghost use Rattle.keyword_authoring.specs.AnswerWords.{IfNoFraction, TellsAtOnce, Becomes};
+ghost use Rattle.keyword_authoring.specs.AnswerWords.{IfNoFraction, TellsAtOnce};
 ghost use Rattle.keyword_authoring.specs.TurnWords.{TellsTurn};
 ghost use Rattle.keyword_authoring.specs.Borrowing.{Borrows, Retains};
 ghost use Rattle.schema_traits.specs.Showing.{Shows, Yields};
+ghost use Rattle.keyword_authoring.specs.FaultWords.{NotesEach};
 
 use crate::answers::{note, refuse};
 use crate::run::Progress;
@@ -76,8 +75,7 @@ fn note_each<'i>(
     found: Vec<String>,
     answer: &mut Answer<'i>,
 ) -> Result<(), OutOfMemory>
-    ensures noted { IfOk result (λ _. Becomes answer.old (λ texts a. noted mode name.now a
-        (map (λ text. spoken texts (string_bytes text)) found.items)) answer.new) }
+    ensures noted { OnOk result (NotesEach mode name.now found.items answer.old answer.new) }
     ensures borrows { Retains answer.old answer.new result }
 {
     for text in found {

@@ -1,15 +1,12 @@
 //! Runs that pass on.
 //!
 //! Such a run asks one question after the other, and passes on the answers.
-ghost use Rattle.std.specs.Prelude.{◌≡◌, ◌≤◌, ◌+◌, ◌^◌, ◌<◌, ℕ, Bool, List, Option, length, option_map, IfOk};
-ghost use Rattle.theory_definitions.specs.Keywords.{Question};
-ghost use Rattle.schema_traits.specs.KeywordViews.{reply_of, turn_of};
-ghost use Rattle.schema_traits.specs.declared.keyword.Mode.{Mode as ModeOfRun};
-ghost use Rattle.keyword_authoring.specs.Asking.{IsNext, IsNextFrom, nth_at, stage_of};
-ghost use Rattle.keyword_authoring.specs.Items.{child_here, each_from};
-ghost use Rattle.keyword_authoring.specs.Ways.{asked, passes_on};
-ghost use Rattle.keyword_authoring.specs.TurnWords.{TurnsIn, StepsIn, AnswersIn};
+ghost use Rattle.std.specs.Prelude.{◌≡◌, ◌+◌, ◌^◌, ◌<◌, option_map, IfOk, OnOk};
+ghost use Rattle.schema_traits.specs.KeywordViews.{turn_of};
+ghost use Rattle.keyword_authoring.specs.Items.{child_here};
+ghost use Rattle.keyword_authoring.specs.Ways.{asked};
 ghost use Rattle.keyword_authoring.specs.Borrowing.{Borrows};
+ghost use Rattle.keyword_authoring.specs.PassingWords.{IsNextPlace, IsNextStart, IsNumberAt, PassesReply, PassesReplyIn, StandsAtNumber, StepsByNumber, TurnsByNumber};
 
 use crate::answers::{goes_on, take};
 use crate::run::{Progress, Stage};
@@ -24,8 +21,7 @@ fn take_asked<'i>(
     reply: Reply<'i>,
     answer: &mut Answer<'i>,
 ) -> Result<(), OutOfMemory>
-    ensures answered { IfOk result (λ _. (texts : Bool) (qs : List Question) (m : ModeOfRun)
-        → AnswersIn texts (passes_on qs) m stage reply.entry answer.old answer.new) }
+    ensures answered { OnOk result (PassesReply stage reply.entry answer.old answer.new) }
     ensures borrows { Borrows reply.entry answer.old answer.new result }
 {
     match stage {
@@ -49,12 +45,9 @@ pub fn onward<'i>(
     reply: Reply<'i>,
     answer: &mut Answer<'i>,
 ) -> Result<Option<usize>, OutOfMemory>
-    ensures answered { IfOk result (λ place. (texts : Bool) (qs : List Question)
-        → AnswersIn texts (passes_on qs) run.now.mode run.now.stage reply.entry answer.old answer.new) }
-    ensures next { IfOk result (λ place. (texts : Bool) (qs : List Question) → length qs ≤ limit
-        → IsNext qs run.now.stage (reply_of texts reply.entry) place) }
-    ensures next_from { IfOk result (λ start. (texts : Bool) (os : List (Option Question)) → length os ≤ limit
-        → IsNextFrom os run.now.stage (reply_of texts reply.entry) start) }
+    ensures answered { OnOk result (PassesReplyIn run.now reply.entry answer.old answer.new) }
+    ensures next { IfOk result (IsNextPlace limit run.now.stage reply.entry) }
+    ensures next_from { IfOk result (IsNextStart limit run.now.stage reply.entry) }
     ensures borrows { Borrows reply.entry answer.old answer.new result }
 {
     let onward = goes_on(&reply);
@@ -80,8 +73,8 @@ pub fn onward<'i>(
 #[tactic(auto, using(crate::proofs::EachQuestion::nth_each, crate::proofs::EachQuestion::nth_each_past))]
 fn number_at(place: Option<usize>, first: usize, count: usize, run: &mut Progress) -> Option<usize>
     requires { first + count < 2 ^ 64 }
-    ensures stage { (f : ℕ → Question) → run.new ≡ record run.old { stage = stage_of (each_from f first count) place } }
-    ensures number { (f : ℕ → Question) → nth_at (each_from f first count) place ≡ option_map f result }
+    ensures stage { StandsAtNumber first count place run.old run.new }
+    ensures number { IsNumberAt first count place result }
 {
     if let Some(place) = place {
         if place < count {
@@ -106,10 +99,8 @@ pub fn next_number<'i>(
     answer: &mut Answer<'i>,
 ) -> Result<Option<usize>, OutOfMemory>
     requires { first + count < 2 ^ 64 }
-    ensures turns { IfOk result (λ _. (texts : Bool) (f : ℕ → Question)
-        → TurnsIn texts (passes_on (each_from f first count)) run.old answer.old reply.entry run.new answer.new) }
-    ensures steps { IfOk result (λ number. (texts : Bool) (f : ℕ → Question)
-        → StepsIn texts (passes_on (each_from f first count)) run.old answer.old reply.entry (asked run.old.mode (option_map f number))) }
+    ensures turns { OnOk result (TurnsByNumber first count run.old answer.old reply.entry run.new answer.new) }
+    ensures steps { IfOk result (StepsByNumber first count run.old answer.old reply.entry) }
     ensures borrows { Borrows reply.entry answer.old answer.new result }
 {
     let place = onward(alloc, count, run, reply, answer)?;

@@ -1,8 +1,7 @@
 //! Runs that ask nothing, and note the keyword's own errors in their first turn.
-ghost use Rattle.std.specs.Prelude.{◌≡◌, if◌then◌else◌};
-ghost use Rattle.theory_definitions.specs.Keywords.{Answer as AnswerOfRun};
+ghost use Rattle.std.specs.Prelude.{◌≡◌};
 ghost use Rattle.keyword_authoring.specs.declared.run.Stage.TheVariants.{Ended};
-ghost use Rattle.keyword_authoring.specs.Ways.{at_first};
+ghost use Rattle.keyword_authoring.specs.TurnWords.{TellsIfFirst};
 
 use crate::run::{Progress, Stage};
 
@@ -11,7 +10,7 @@ use crate::run::{Progress, Stage};
 /// They are noted in the first turn only.
 pub fn tell_on(run: &mut Progress) -> bool
     ensures stage { run.new ≡ record run.old { stage = Ended } }
-    ensures first { (told answer : AnswerOfRun) → at_first run.old.stage told answer ≡ (if result then told else answer) }
+    ensures first { TellsIfFirst run.old.stage result }
 {
     let first = matches!(run.stage, Stage::Begun);
     run.stage = Stage::Ended;

@@ -1,15 +1,10 @@
 //! The units that children return, in the answer of a run.
-ghost use Rattle.std.specs.Prelude.{◌≡◌, [], Bool, false, IfOk};
-ghost use Rattle.schema_reports.specs.EvaluationResults.{gives_of};
-ghost use Rattle.schema_reports.specs.UnitViews.{unit_of};
+ghost use Rattle.std.specs.Prelude.{◌≡◌, [], IfOk, OnOk};
 ghost use Rattle.schema_traits.specs.FaultViews.{faults_in};
-ghost use Rattle.schema_traits.specs.KeywordViews.{reply_of};
-ghost use Rattle.keyword_authoring.specs.Judging.{kept_at};
-ghost use Rattle.keyword_authoring.specs.Tallies.{with_inside};
-ghost use Rattle.keyword_authoring.specs.Ways.{with_unit};
-ghost use Rattle.keyword_authoring.specs.AnswerWords.{KeepsUnit, Becomes};
+ghost use Rattle.keyword_authoring.specs.AnswerWords.{KeepsUnit};
 ghost use Rattle.keyword_authoring.specs.Borrowing.{Retains};
 ghost use Rattle.schema_traits.specs.Showing.{Shows};
+ghost use Rattle.keyword_authoring.specs.UnitWords.{Invalidates, KeepsReply, PutsInside, TakesUnit};
 
 use crate::run::Stage;
 use schema_reports::{ChildList, EvaluationNode, EvaluationResult, OutOfMemory};
@@ -21,7 +16,7 @@ use std::mem;
 ///
 /// Its annotations, units and errors stay.
 pub fn invalidate(alloc: Global, own: &mut EvaluationResult)
-    ensures invalid { (texts : Bool) → gives_of texts own.new ≡ record (gives_of texts own.old) { valid = false } }
+    ensures invalid { Invalidates own.old own.new }
 {
     match own {
         EvaluationResult::Valid(annotations, children) => {
@@ -35,8 +30,7 @@ pub fn invalidate(alloc: Global, own: &mut EvaluationResult)
 
 /// Adds a unit after the others. The verdict stays.
 fn push_unit(own: &mut EvaluationResult, node: EvaluationNode) -> Result<(), OutOfMemory>
-    ensures inside { IfOk result (λ _. (texts : Bool)
-        → gives_of texts own.new ≡ with_inside (gives_of texts own.old) (unit_of texts node)) }
+    ensures inside { OnOk result (PutsInside node own.old own.new) }
 {
     match own {
         EvaluationResult::Valid(_, children) => children.push(node),
@@ -50,7 +44,7 @@ pub fn with_unit<'i>(
     node: EvaluationNode,
     before: Answer<'i>,
 ) -> Result<Answer<'i>, OutOfMemory>
-    ensures taken { IfOk result (Becomes before.entry (λ texts a. with_unit a (unit_of texts node))) }
+    ensures taken { IfOk result (TakesUnit node before.entry) }
     ensures faults { Shows faults_in result [] }
 {
     let accepts = node.report.valid;
@@ -83,8 +77,8 @@ fn keep_unit<'i>(
     node: EvaluationNode,
     answer: &mut Answer<'i>,
 ) -> Result<(), OutOfMemory>
-    ensures kept { IfOk result (λ _. KeepsUnit node answer.old answer.new) }
-    ensures faults { IfOk result (λ _. faults_in answer.new ≡ []) }
+    ensures kept { OnOk result (KeepsUnit node answer.old answer.new) }
+    ensures faults { OnOk result (faults_in answer.new ≡ []) }
 {
     let before = mem::replace(answer, Answer::Verdict(false));
     *answer = with_kept(alloc, node, before)?;
@@ -98,7 +92,7 @@ pub fn keep_child<'i>(
     reply: Reply<'i>,
     answer: &mut Answer<'i>,
 ) -> Result<(), OutOfMemory>
-    ensures kept { IfOk result (λ _. Becomes answer.old (λ texts a. kept_at stage a (reply_of texts reply.entry)) answer.new) }
+    ensures kept { OnOk result (KeepsReply stage reply.entry answer.old answer.new) }
     ensures borrows { Retains answer.old answer.new result }
 {
     match stage {
