@@ -1,11 +1,12 @@
 -- The children of `if`: the values of `if`, `then` and `else`, in this order, if they are present.
 -- (Core 2020-12, 10.2.2)
-use Rattle.std.specs.Prelude.{Bool, List, None, Option, Some, [], codes, false, is_some, true, ℕ, ◌++◌, ◌+◌, ◌∷◌}
+use Rattle.std.specs.Prelude.{Bool, List, None, Option, Some, [], codes, false, is_some, true, ℕ, ◌++◌, ◌+◌, ◌∷◌, ◌≡◌}
 use Rattle.serde_json.specs.Data.{Members}
 use Rattle.serde_json.specs.Find.{get_member}
 use Rattle.theory_definitions.specs.Instance.{Place, Text, to_member}
 use Rattle.theory_definitions.specs.Making.{Script, a_keyword}
 use Rattle.keyword_makers.specs.Making.{asks_for}
+use Rattle.keyword_makers.specs.declared.branches.Branches.{Branches}
 
 -- whether a member with this name is present
 abbrev pub has_branch : Text → Members → Bool
@@ -34,3 +35,21 @@ if_places name has_then has_else = (to_member name ∷ []) ∷ (branch_places ha
 abbrev pub if_script : {K : Type 0} → (Option ℕ → Option ℕ → K) → Text → Bool → Bool → Script K
 if_script shape name has_then has_else = asks_for (if_places name has_then has_else)
     (a_keyword (shape (branch_child has_then 1) (branch_child has_else (after_branch has_then 1))) [])
+
+-- ---- as the code collects them from an object with these members
+
+-- the path of the branch of this name is added, if the object has it
+abbrev pub AddsBranch : Text → Members → List Place → List Place → Type 0
+AddsBranch name ms old new = new ≡ old ++ branch_places (has_branch name ms) name
+
+-- they have the paths of the children
+abbrev pub HasIfPlaces : Text → Members → Branches → Type 0
+HasIfPlaces name ms b = b.paths.items ≡ if_places name (has_branch (codes "then") ms) (has_branch (codes "else") ms)
+
+-- they have the number of the child under `then`
+abbrev pub HasThen : Members → Branches → Type 0
+HasThen ms b = b.accepted ≡ branch_child (has_branch (codes "then") ms) 1
+
+-- they have the number of the child under `else`
+abbrev pub HasElse : Members → Branches → Type 0
+HasElse ms b = b.refused ≡ branch_child (has_branch (codes "else") ms) (after_branch (has_branch (codes "then") ms) 1)

@@ -1,6 +1,6 @@
 //! The children of `if`.
-ghost use Rattle.std.specs.Prelude.{◌≡◌, ◌++◌, IfOk, codes};
-ghost use Rattle.keyword_makers.specs.Branches.{after_branch, branch_child, branch_places, has_branch, if_places};
+ghost use Rattle.std.specs.Prelude.{IfOk, OnOk};
+ghost use Rattle.keyword_makers.specs.Branches.{branch_child, has_branch, AddsBranch, HasElse, HasIfPlaces, HasThen};
 ghost use Rattle.schema_traits.specs.Showing.{Yields};
 ghost use Rattle.schema_traits.specs.Readings.{fields};
 
@@ -29,8 +29,7 @@ fn push_branch(
     paths: &mut Vec<SchemaPath>,
     number: usize,
 ) -> Result<Option<usize>, OutOfMemory>
-    ensures paths { IfOk result (λ _. paths.new.items ≡ paths.old.items ++ branch_places (has_branch name.now (fields object.now))
-        name.now) }
+    ensures paths { OnOk result (AddsBranch name.now (fields object.now) paths.old.items paths.new.items) }
     ensures child { Yields result (branch_child (has_branch name.now (fields object.now)) number) }
 {
     match value_in(object, name) {
@@ -48,11 +47,9 @@ pub fn branches_of(
     name: &str,
     object: &Map<String, Value>,
 ) -> Result<Branches, OutOfMemory>
-    ensures paths { IfOk result (λ b. b.paths.items ≡ if_places name.now (has_branch (codes "then") (fields object.now))
-        (has_branch (codes "else") (fields object.now))) }
-    ensures accepted { IfOk result (λ b. b.accepted ≡ branch_child (has_branch (codes "then") (fields object.now)) 1) }
-    ensures refused { IfOk result (λ b. b.refused ≡ branch_child (has_branch (codes "else") (fields object.now)) (after_branch
-        (has_branch (codes "then") (fields object.now)) 1)) }
+    ensures paths { IfOk result (HasIfPlaces name.now (fields object.now)) }
+    ensures accepted { IfOk result (HasThen (fields object.now)) }
+    ensures refused { IfOk result (HasElse (fields object.now)) }
 {
     let mut paths = Vec::new(alloc);
     paths.push(value_of(alloc, name)?)?;

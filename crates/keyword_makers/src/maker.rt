@@ -2,9 +2,9 @@
 ghost use Rattle.std.specs.Prelude.{◌≡◌, [], Some, IfOk};
 ghost use Rattle.serde_json.specs.View.{items_view};
 ghost use Rattle.theory_definitions.specs.Making.{a_keyword, then_end};
-ghost use Rattle.schema_traits.specs.MakerViews.{begun, maker_reply_of, TakesTurn};
+ghost use Rattle.schema_traits.specs.MakerViews.{begun};
 ghost use Rattle.keyword_makers.specs.Making.{asks_for, each_item, only_child};
-ghost use Rattle.keyword_makers.specs.MakerViews.{Begins, made_of, waiting_of};
+ghost use Rattle.keyword_makers.specs.MakerViews.{Begins, made_of, waiting_of, TakesPathsTurn};
 
 use crate::paths::{items_below, value_of};
 use schema_reports::{OutOfMemory, OwnedError};
@@ -84,8 +84,7 @@ impl<K: Validate> PathsMaker<K> {
     /// Takes a turn.
     #[tactic(auto, using(crate::proofs::HandedOut::handed_out))]
     pub fn turn(&mut self, alloc: Global, _reply: MakerReply) -> Result<MakerStep<K>, OutOfMemory>
-        ensures takes { IfOk result (λ step. TakesTurn K.shape (waiting_of K.shape self.old) (maker_reply_of _reply) step
-            (waiting_of K.shape self.new)) }
+        ensures takes { IfOk result (TakesPathsTurn K.shape self.old _reply self.new) }
     {
         if self.asked < self.paths.len() {
             let path = mem::replace(&mut self.paths[self.asked], SchemaPath::root(alloc));
