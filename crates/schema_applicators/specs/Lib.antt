@@ -12,3 +12,4 @@ pub mod Not
 pub mod If
 pub mod Meanings
 pub mod RunWays
+pub mod MakerWords

@@ -1,5 +1,5 @@
 //! The keyword `not`.
-ghost use Rattle.std.specs.Prelude.{◌≡◌, false, not, IfOk};
+ghost use Rattle.std.specs.Prelude.{◌≡◌, false, not, IfOk, OnOk};
 ghost use Rattle.serde_json.specs.View.{view};
 ghost use Rattle.serde_json.specs.Written.{compact_text, has_float};
 ghost use Rattle.schema_applicators.specs.Words.{not_text};
@@ -35,8 +35,8 @@ fn tell_not<'i>(
     instance: Instance<'i>,
     answer: &mut Answer<'i>,
 ) -> Result<(), OutOfMemory>
-    ensures told { IfOk result (λ _. TellsTally (not (has_float (view schema.now))) (tally_of_not (view schema.now)) accepted
-        instance.entry mode answer.old answer.new) }
+    ensures told { OnOk result (TellsTally (not (has_float (view schema.now))) (tally_of_not (view schema.now)) accepted instance.entry
+        mode answer.old answer.new) }
     ensures borrows { Retains answer.old answer.new result }
 {
     if accepted == 0 {

@@ -1,12 +1,7 @@
 //! The table of the keywords.
-ghost use Rattle.std.specs.Prelude.{IfOk};
-ghost use Rattle.serde_json.specs.Find.{get_member};
-ghost use Rattle.serde_json.specs.View.{view};
-ghost use Rattle.schema_drafts.specs.KeywordViews.{builtin_text};
-ghost use Rattle.schema_applicators.specs.Makers.{member_script, value_script};
-ghost use Rattle.keyword_makers.specs.MakerViews.{waiting_of, Begins};
+ghost use Rattle.keyword_makers.specs.MakerViews.{waiting_of};
 ghost use Rattle.schema_applicators.specs.Shapes.{shape_of};
-ghost use Rattle.schema_traits.specs.Readings.{fields};
+ghost use Rattle.schema_applicators.specs.MakerWords.{Follows, script_of_member, script_of_value};
 
 use crate::applicator::Applicator;
 use keyword_makers::{
@@ -34,7 +29,7 @@ fn value_maker(
     value: &Value,
     object: &Map<String, Value>,
 ) -> Result<PathsMaker<Applicator>, OutOfMemory>
-    ensures maker { IfOk result (Begins shape_of (value_script (fields object.now) (builtin_text keyword) (view value.now))) }
+    ensures maker { Follows result (script_of_value object.now keyword value.now) }
 {
     let name = keyword.as_str();
     match keyword {
@@ -104,8 +99,7 @@ fn member_maker(
     keyword: BuiltinKeyword,
     object: &Map<String, Value>,
 ) -> Result<PathsMaker<Applicator>, OutOfMemory>
-    ensures maker { IfOk result (Begins shape_of (member_script (fields object.now) (builtin_text keyword)
-        (get_member (builtin_text keyword) (fields object.now)))) }
+    ensures maker { Follows result (script_of_member object.now keyword) }
 {
     match value_in(object, keyword.as_str()) {
         Some(value) => value_maker(alloc, keyword, value, object),
