@@ -135,7 +135,7 @@ module _ (absorbed : Shape → List Text) (none : (m : Shape) → [] ≡ absorbe
       → IsRightHere absorbed shows_no_fraction whole (made draft whole name d)
   made_right draft whole name d found = right_by_value absorbed shows_no_fraction none whole name d found (made draft whole name d) (made_whole draft whole name d)
 
-  pub makes_rightly : (own : Bool) (name : Text) (object : Members) (draft : Draft) (vocabularies : Vocabularies) (formats : Bool)
-      → MakesRightly absorbed shows_no_fraction object (assertion_script own name object draft vocabularies formats)
-  makes_rightly true name object draft vocabularies formats = tt
-  makes_rightly false name object draft vocabularies formats = makes_by_object absorbed shows_no_fraction made made_right false name object draft vocabularies formats
+  pub makes_rightly : (own : Bool) (name : Text) (whole : Members) (draft : Draft) (vocabularies : Vocabularies) (formats : Bool)
+      → MakesRightly absorbed shows_no_fraction whole (assertion_script own name whole draft vocabularies formats)
+  makes_rightly true name whole draft vocabularies formats = tt
+  makes_rightly false name whole draft vocabularies formats = makes_by_object absorbed shows_no_fraction made made_right false name whole draft vocabularies formats
