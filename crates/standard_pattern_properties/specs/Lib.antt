@@ -8,3 +8,5 @@ pub mod Meanings
 pub mod Present
 pub mod Gates
 pub mod MoveWords
+pub mod MakerWords
+pub mod RunWords

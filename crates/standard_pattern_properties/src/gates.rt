@@ -1,13 +1,13 @@
 //! Gates, and the runs of keywords that have gates.
 //!
 //! The head of the crate says what a gate is.
-ghost use Rattle.std.specs.Prelude.{◌≡◌, [], IfOk};
-ghost use Rattle.schema_traits.specs.KeywordViews.{mode_of, reply_of};
-ghost use Rattle.standard_pattern_properties.specs.GateMoves.{answer_at, run_begin};
+ghost use Rattle.std.specs.Prelude.{◌≡◌, [], OnOk};
+ghost use Rattle.schema_traits.specs.KeywordViews.{mode_of};
+ghost use Rattle.standard_pattern_properties.specs.GateMoves.{run_begin};
 ghost use Rattle.standard_pattern_properties.specs.Gates.{opens};
 ghost use Rattle.standard_pattern_properties.specs.declared.gates.GateStage.TheVariants.{Ended};
-ghost use Rattle.keyword_authoring.specs.AnswerWords.{Becomes};
 ghost use Rattle.keyword_authoring.specs.Borrowing.{Borrows};
+ghost use Rattle.standard_pattern_properties.specs.RunWords.{TakesAsked};
 
 use crate::names::{NamesLeft, Texts};
 use keyword_authoring::take;
@@ -118,7 +118,7 @@ pub fn take_asked<'i>(
     reply: Reply<'i>,
     answer: &mut Answer<'i>,
 ) -> Result<(), OutOfMemory>
-    ensures answered { IfOk result (λ _. Becomes answer.old (λ texts a. answer_at stage a (reply_of texts reply.entry)) answer.new) }
+    ensures answered { OnOk result (TakesAsked stage reply.entry answer.old answer.new) }
     ensures borrows { Borrows reply.entry answer.old answer.new result }
 {
     match stage {

@@ -1,5 +1,5 @@
 //! The keywords `patternProperties` and `additionalProperties`.
-ghost use Rattle.std.specs.Prelude.{◌≡◌, ◌∷◌, [], ◌+◌, ◌^◌, ◌<◌, IfOk, IfSome, None, Some, if◌then◌else◌};
+ghost use Rattle.std.specs.Prelude.{◌≡◌, ◌∷◌, [], ◌+◌, ◌^◌, ◌<◌, IfOk, IfSome, None, Some, if◌then◌else◌, OnOk};
 ghost use Rattle.std.specs.Prelude.{is_some, map, string_bytes};
 ghost use Rattle.serde_json.specs.Find.{get_member};
 ghost use Rattle.schema_reports.specs.InstanceViews.{subject_of};
@@ -7,13 +7,13 @@ ghost use Rattle.schema_traits.specs.KeywordViews.{turn_of};
 ghost use Rattle.keyword_authoring.specs.Members.{has_member};
 ghost use Rattle.standard_pattern_properties.specs.Gates.{opens};
 ghost use Rattle.standard_pattern_properties.specs.GatedKeywords.{form_of, gates_from, gates_of, name_here, names_of, other_gate};
-ghost use Rattle.standard_pattern_properties.specs.GateMoves.{answer_by, run_after, told_in, turn_by};
-ghost use Rattle.keyword_authoring.specs.AnswerWords.{Becomes};
+ghost use Rattle.standard_pattern_properties.specs.GateMoves.{run_after, turn_by};
 ghost use Rattle.standard_pattern_properties.specs.MoveWords.{Enters, IsGate, Looks, Moves, SeekAlike, Seeks, SeeksHere, Settles};
 ghost use Rattle.standard_pattern_properties.specs.MoveWords.{TakesMatch, Tests, moved_in};
 ghost use Rattle.schema_traits.specs.Showing.{Yields, Shows};
 ghost use Rattle.keyword_authoring.specs.Borrowing.{Retains};
 ghost use Rattle.schema_traits.specs.Readings.{fields, text_read};
+ghost use Rattle.standard_pattern_properties.specs.RunWords.{KeepsMode, KeepsNames, AnswersMove, TellsNames};
 
 use crate::gates::{Condition, Gate, GateRun, GateStage, Move, opens, take_asked};
 use crate::listed::Listed;
@@ -139,9 +139,9 @@ impl GatedKeyword {
         number: usize,
         gate: Gate<'s>,
     ) -> Result<Option<Move<'s>>, OutOfMemory>
-        ensures enters { IfOk result (λ made. Enters self.now run.old run.new name.now number gate.entry made) }
-        ensures names { IfOk result (λ _. run.new.names ≡ run.old.names) }
-        ensures mode { IfOk result (λ _. run.new.mode ≡ run.old.mode) }
+        ensures enters { IfOk result (Enters self.now run.old run.new name.now number gate.entry) }
+        ensures names { KeepsNames run.old run.new result }
+        ensures mode { KeepsMode run.old run.new result }
     {
         match self {
             GatedKeyword::NoAdditionalProperties(_) => {
@@ -170,10 +170,9 @@ impl GatedKeyword {
         gate: Gate<'s>,
         matched: bool,
     ) -> Result<Option<Move<'s>>, OutOfMemory>
-        ensures settles { IfOk result (λ made. Settles self.now run.old run.new name.now number (opens gate.entry.condition matched)
-            gate.entry made) }
-        ensures names { IfOk result (λ _. run.new.names ≡ run.old.names) }
-        ensures mode { IfOk result (λ _. run.new.mode ≡ run.old.mode) }
+        ensures settles { IfOk result (Settles self.now run.old run.new name.now number (opens gate.entry.condition matched) gate.entry) }
+        ensures names { KeepsNames run.old run.new result }
+        ensures mode { KeepsMode run.old run.new result }
     {
         if opens(gate.condition, matched) {
             self.enter(alloc, run, name, number, gate)
@@ -194,9 +193,9 @@ impl GatedKeyword {
         gate: Gate<'s>,
         place: usize,
     ) -> Result<Option<Move<'s>>, OutOfMemory>
-        ensures looks { IfOk result (λ made. Looks self.now run.old run.new name.now number place gate.entry made) }
-        ensures names { IfOk result (λ _. run.new.names ≡ run.old.names) }
-        ensures mode { IfOk result (λ _. run.new.mode ≡ run.old.mode) }
+        ensures looks { IfOk result (Looks self.now run.old run.new name.now number place gate.entry) }
+        ensures names { KeepsNames run.old run.new result }
+        ensures mode { KeepsMode run.old run.new result }
     {
         if place < gate.patterns.len() {
             let pattern = gate.patterns[place].as_str();
@@ -218,9 +217,9 @@ impl GatedKeyword {
         name: &'s str,
         from: usize,
     ) -> Result<Option<Move<'s>>, OutOfMemory>
-        ensures seeks { IfOk result (λ made. SeeksHere self.now run.old run.new name.now from made) }
-        ensures names { IfOk result (λ _. run.new.names ≡ run.old.names) }
-        ensures mode { IfOk result (λ _. run.new.mode ≡ run.old.mode) }
+        ensures seeks { IfOk result (SeeksHere self.now run.old run.new name.now from) }
+        ensures names { KeepsNames run.old run.new result }
+        ensures mode { KeepsMode run.old run.new result }
     {
         let mut number = from;
         while let Some(gate) = self.gate(number) {
@@ -242,8 +241,8 @@ impl GatedKeyword {
         instance: Instance<'i>,
         from: usize,
     ) -> Result<Move<'s>, OutOfMemory>
-        ensures seeks { IfOk result (λ made. Seeks self.now instance.entry run.old run.new from made) }
-        ensures mode { IfOk result (λ _. run.new.mode ≡ run.old.mode) }
+        ensures seeks { IfOk result (Seeks self.now instance.entry run.old run.new from) }
+        ensures mode { KeepsMode run.old run.new result }
     {
         let mut number = from;
         while let Some(next) = run.names.first() {
@@ -268,8 +267,8 @@ impl GatedKeyword {
         instance: Instance<'i>,
         number: usize,
     ) -> Result<Move<'s>, OutOfMemory>
-        ensures seeks { IfOk result (λ made. Seeks self.now instance.entry run.old run.new number made) }
-        ensures mode { IfOk result (λ _. run.new.mode ≡ run.old.mode) }
+        ensures seeks { IfOk result (Seeks self.now instance.entry run.old run.new number) }
+        ensures mode { KeepsMode run.old run.new result }
     {
         match self.gate(number) {
             Some(_) => self.seek(alloc, run, instance, number),
@@ -293,9 +292,9 @@ impl GatedKeyword {
         place: usize,
         won: bool,
     ) -> Result<Option<Move<'s>>, OutOfMemory>
-        ensures takes { IfOk result (λ made. TakesMatch self.now run.old run.new name.now number place won gate.entry made) }
-        ensures names { IfOk result (λ _. run.new.names ≡ run.old.names) }
-        ensures mode { IfOk result (λ _. run.new.mode ≡ run.old.mode) }
+        ensures takes { IfOk result (TakesMatch self.now run.old run.new name.now number place won gate.entry) }
+        ensures names { KeepsNames run.old run.new result }
+        ensures mode { KeepsMode run.old run.new result }
     {
         if won {
             return self.settle(alloc, run, name, number, gate, true);
@@ -316,8 +315,8 @@ impl GatedKeyword {
         place: usize,
         won: bool,
     ) -> Result<Move<'s>, OutOfMemory>
-        ensures tested { IfOk result (λ made. Tests self.now instance.entry run.old run.new number place won made) }
-        ensures mode { IfOk result (λ _. run.new.mode ≡ run.old.mode) }
+        ensures tested { IfOk result (Tests self.now instance.entry run.old run.new number place won) }
+        ensures mode { KeepsMode run.old run.new result }
     {
         match (name_here(run, instance), self.gate(number)) {
             (Some(name), Some(gate)) => {
@@ -349,8 +348,8 @@ impl GatedKeyword {
         won: bool,
         onward: bool,
     ) -> Result<Move<'s>, OutOfMemory>
-        ensures moves { IfOk result (λ made. Moves self.now instance.entry run.old run.new won onward made) }
-        ensures mode { IfOk result (λ _. run.new.mode ≡ run.old.mode) }
+        ensures moves { IfOk result (Moves self.now instance.entry run.old run.new won onward) }
+        ensures mode { KeepsMode run.old run.new result }
     {
         match run.stage {
             GateStage::Begun => self.seek(alloc, run, instance, 0),
@@ -379,8 +378,7 @@ impl GatedKeyword {
         names: &[String],
         answer: &mut Answer<'i>,
     ) -> Result<(), OutOfMemory>
-        ensures told { IfOk result (λ _. Becomes answer.old (λ texts a. told_in texts (form_of self.now) mode a
-            (map string_bytes names.now)) answer.new) }
+        ensures told { OnOk result (TellsNames self.now mode names.now answer.old answer.new) }
         ensures borrows { Retains answer.old answer.new result }
     {
         match self {
@@ -409,9 +407,8 @@ impl GatedKeyword {
         made: Move<'s>,
         answer: &mut Answer<'i>,
     ) -> Result<Step<'s>, OutOfMemory>
-        ensures answered { IfOk result (λ _. Becomes answer.old (λ texts a. answer_by texts (form_of self.now) run.old.mode a
-            (moved_in run.old made.entry)) answer.new) }
-        ensures run { IfOk result (λ _. run.new ≡ run_after run.old.mode (moved_in run.old made.entry)) }
+        ensures answered { OnOk result (AnswersMove self.now run.old made.entry answer.old answer.new) }
+        ensures run { OnOk result (run.new ≡ run_after run.old.mode (moved_in run.old made.entry)) }
         ensures step { Shows turn_of result (turn_by run.old.mode (moved_in run.old made.entry)) }
         ensures borrows { Retains answer.old answer.new result }
     {

@@ -1,5 +1,5 @@
 //! Lists of texts.
-ghost use Rattle.std.specs.Prelude.{◌≡◌, [], ◌++◌, ◌∷◌, IfOk, map, string_bytes};
+ghost use Rattle.std.specs.Prelude.{◌≡◌, [], ◌++◌, ◌∷◌, map, string_bytes, OnOk};
 ghost use Rattle.keyword_makers.specs.Members.{names_of};
 ghost use Rattle.schema_traits.specs.KeywordViews.{is_nil};
 ghost use Rattle.standard_pattern_properties.specs.Firsts.{first_of, later_of};
@@ -54,7 +54,7 @@ impl Texts {
 
     /// Appends a text.
     pub fn push(&mut self, alloc: Global, text: &str) -> Result<(), OutOfMemory>
-        ensures pushed { IfOk result (λ _. self.new ≡ self.old ++ text.now ∷ []) }
+        ensures pushed { OnOk result (self.new ≡ self.old ++ text.now ∷ []) }
     {
         self.items.push(String::from_str(alloc, text)?)?;
         Ok(())
@@ -110,7 +110,7 @@ impl NamesLeft {
 
     /// Appends a name.
     pub fn push(&mut self, alloc: Global, name: &str) -> Result<(), OutOfMemory>
-        ensures pushed { IfOk result (λ _. self.new ≡ self.old ++ name.now ∷ []) }
+        ensures pushed { OnOk result (self.new ≡ self.old ++ name.now ∷ []) }
     {
         self.names.push_back(String::from_str(alloc, name)?)?;
         Ok(())

@@ -1,14 +1,13 @@
 //! The table of `patternProperties` and `additionalProperties`.
-ghost use Rattle.std.specs.Prelude.{◌≡◌, IfOk};
-ghost use Rattle.serde_json.specs.Find.{as_object, get_member};
+ghost use Rattle.std.specs.Prelude.{◌≡◌};
+ghost use Rattle.serde_json.specs.Find.{as_object};
 ghost use Rattle.serde_json.specs.View.{view};
-ghost use Rattle.schema_drafts.specs.KeywordViews.{builtin_text};
-ghost use Rattle.keyword_makers.specs.MakerViews.{waiting_of, Begins};
-ghost use Rattle.standard_pattern_properties.specs.Making.{beside_of, is_false, member_script, names_of_value};
+ghost use Rattle.keyword_makers.specs.MakerViews.{waiting_of};
+ghost use Rattle.standard_pattern_properties.specs.Making.{beside_of, is_false, names_of_value};
 ghost use Rattle.standard_pattern_properties.specs.Making.{others_script, patterns_script};
-ghost use Rattle.standard_pattern_properties.specs.Making.{value_script};
 ghost use Rattle.schema_traits.specs.Showing.{Yields};
 ghost use Rattle.schema_traits.specs.Readings.{fields, value_read};
+ghost use Rattle.standard_pattern_properties.specs.MakerWords.{Follows, script_of_member, script_of_value};
 
 use crate::keyword::{GatedKeyword, Neighbours};
 use crate::listed::Listed;
@@ -77,7 +76,7 @@ fn is_false(value: &Value) -> bool
 
 /// Returns the maker of `patternProperties`.
 fn patterns_maker(alloc: Global, name: &str, value: &Value) -> Result<Maker, OutOfMemory>
-    ensures maker { IfOk result (Begins (λ k. k) (patterns_script name.now (view value.now) (as_object (view value.now)))) }
+    ensures maker { Follows result (patterns_script name.now (view value.now) (as_object (view value.now))) }
 {
     match value.as_object() {
         Some(members) => {
@@ -96,7 +95,7 @@ fn others_maker(
     value: &Value,
     object: &Map<String, Value>,
 ) -> Result<Maker, OutOfMemory>
-    ensures maker { IfOk result (Begins (λ k. k) (others_script (fields object.now) name.now (view value.now))) }
+    ensures maker { Follows result (others_script (fields object.now) name.now (view value.now)) }
 {
     let beside = beside_of(alloc, object)?;
     if is_false(value) {
@@ -113,7 +112,7 @@ fn value_maker(
     value: &Value,
     object: &Map<String, Value>,
 ) -> Result<Maker, OutOfMemory>
-    ensures maker { IfOk result (Begins (λ k. k) (value_script (fields object.now) (builtin_text keyword) (view value.now))) }
+    ensures maker { Follows result (script_of_value object.now keyword value.now) }
 {
     let name = keyword.as_str();
     match keyword {
@@ -171,8 +170,7 @@ fn member_maker(
     keyword: BuiltinKeyword,
     object: &Map<String, Value>,
 ) -> Result<Maker, OutOfMemory>
-    ensures maker { IfOk result (Begins (λ k. k) (member_script (fields object.now) (builtin_text keyword)
-        (get_member (builtin_text keyword) (fields object.now)))) }
+    ensures maker { Follows result (script_of_member object.now keyword) }
 {
     match value_in(object, keyword.as_str()) {
         Some(value) => value_maker(alloc, keyword, value, object),

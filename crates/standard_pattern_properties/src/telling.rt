@@ -1,15 +1,15 @@
 //! The error of `additionalProperties`.
-ghost use Rattle.std.specs.Prelude.{◌≡◌, [], IfOk, map, string_bytes};
+ghost use Rattle.std.specs.Prelude.{◌≡◌, [], map, string_bytes};
 ghost use Rattle.standard_pattern_properties.specs.GatedKeywords.{in_quotes, unexpected_text, were_unexpected};
-ghost use Rattle.keyword_authoring.specs.TextWords.{Adds};
 ghost use Rattle.schema_traits.specs.Showing.{Shows};
+ghost use Rattle.schema_reports.specs.Showing.{Adds};
 
 use schema_reports::OutOfMemory;
 use std::alloc::Global;
 
 /// Appends the names, each in quotes, with commas between them.
 fn push_quoted(names: &[String], text: &mut String) -> Result<(), OutOfMemory>
-    ensures pushed { IfOk result (λ _. Adds (in_quotes [] (map string_bytes names.now)) text.old text.new) }
+    ensures pushed { Adds result text.old text.new (in_quotes [] (map string_bytes names.now)) }
 {
     let mut before = "";
     for name in names {
