@@ -3,3 +3,4 @@ pub mod FormatMaking
 pub mod FormatWords
 pub mod IdnHostnames
 pub mod Shapes
+pub mod MakerWords

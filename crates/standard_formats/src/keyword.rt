@@ -1,9 +1,10 @@
 //! The assertions of `format`, `contentEncoding` and `contentMediaType`.
 ghost use Rattle.std.specs.Prelude.{◌∷◌, [], IfOk, string_bytes, true};
 ghost use Rattle.schema_traits.specs.Showing.{Yields};
-ghost use Rattle.standard_formats.specs.FormatWords.{complaint, error_text, holds, no_format, takes};
-ghost use Rattle.keyword_authoring.specs.TextWords.{Adds, ShowsText};
+ghost use Rattle.standard_formats.specs.FormatWords.{complaint, error_text, no_format, takes};
+ghost use Rattle.keyword_authoring.specs.TextWords.{ShowsText};
 ghost use Rattle.schema_traits.specs.Readings.{ListsTexts};
+ghost use Rattle.schema_reports.specs.Showing.{Adds};
 
 use crate::contents::{is_base64, is_json, is_json_in_base64};
 use crate::idn_hostnames::is_idn_hostname;
@@ -35,7 +36,7 @@ pub enum FormatKeyword {
 impl FormatKeyword {
     /// Appends the words that follow the instance in the error's text.
     fn push_complaint(self, text: &mut String) -> Result<(), OutOfMemory>
-        ensures pushed { IfOk result (λ _. Adds (complaint self) text.old text.new) }
+        ensures pushed { Adds result text.old text.new (complaint self) }
     {
         match self {
             FormatKeyword::Of(format) => push_no_format(text, format.name()),
@@ -79,7 +80,7 @@ impl FormatKeyword {
 
 /// Appends the words that say that an instance does not have a format.
 fn push_no_format(text: &mut String, name: &str) -> Result<(), OutOfMemory>
-    ensures pushed { IfOk result (λ _. Adds (no_format name.now) text.old text.new) }
+    ensures pushed { Adds result text.old text.new (no_format name.now) }
 {
     text.push_str(" is not a \"")?;
     text.push_str(name)?;

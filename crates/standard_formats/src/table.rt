@@ -1,15 +1,15 @@
 //! The table that makes `format`, `contentEncoding` and `contentMediaType`.
-ghost use Rattle.std.specs.Prelude.{◌≡◌, IfOk, bytes_eq, codes};
-ghost use Rattle.serde_json.specs.Find.{as_str, get_member};
+ghost use Rattle.std.specs.Prelude.{◌≡◌, bytes_eq, codes};
+ghost use Rattle.serde_json.specs.Find.{as_str};
 ghost use Rattle.serde_json.specs.View.{view};
 ghost use Rattle.schema_drafts.specs.KeywordViews.{builtin_text, draft_of};
-ghost use Rattle.keyword_makers.specs.ByObject.{formed, script_found};
-ghost use Rattle.keyword_makers.specs.MakerViews.{Begins};
+ghost use Rattle.keyword_makers.specs.ByObject.{formed};
 ghost use Rattle.standard_formats.specs.FormatMaking.{asserts_contents, contents_made, encoding_made, format_made};
 ghost use Rattle.standard_formats.specs.FormatMaking.{idn_hostname_in, json_beside, json_in, keyword_if, keyword_named, known};
 ghost use Rattle.standard_formats.specs.FormatMaking.{made, media_type_made, order, since};
 ghost use Rattle.standard_formats.specs.Shapes.{shape_of};
 ghost use Rattle.schema_traits.specs.Readings.{fields, text_read};
+ghost use Rattle.standard_formats.specs.MakerWords.{FollowsMember, made_of_value, encoding_in};
 
 use crate::keyword::FormatKeyword;
 use keyword_authoring::Telling;
@@ -149,7 +149,7 @@ fn json_in(encoding: Option<&str>) -> Made
 
 /// Makes the assertion that a text is JSON, in the encoding beside it, if any.
 fn json_beside(object: &Map<String, Value>) -> Made
-    ensures made { formed shape_of result ≡ json_beside (get_member (codes "contentEncoding") (fields object.now)) }
+    ensures made { formed shape_of result ≡ json_beside (encoding_in object.now) }
 {
     match value_in(object, "contentEncoding") {
         None => keyword_if(Some(FormatKeyword::Json)),
@@ -159,8 +159,7 @@ fn json_beside(object: &Map<String, Value>) -> Made
 
 /// Makes `contentMediaType`.
 fn media_type_made(object: &Map<String, Value>, value: &Value) -> Made
-    ensures made { formed shape_of result ≡ media_type_made (get_member (codes "contentEncoding") (fields object.now)) (as_str
-        (view value.now)) }
+    ensures made { formed shape_of result ≡ media_type_made (encoding_in object.now) (as_str (view value.now)) }
 {
     match value.as_str() {
         None => ObjectKeyword::Malformed,
@@ -252,7 +251,9 @@ fn is_format(keyword: BuiltinKeyword) -> bool
     matches!(keyword, BuiltinKeyword::Format)
 }
 
-/// Makes the keyword of a member with this value, given whether formats are checked.
+/// Makes the keyword of a member with this value.
+///
+/// `checked` says whether formats are checked.
 fn keyword_made(
     checked: bool,
     keyword: BuiltinKeyword,
@@ -260,7 +261,7 @@ fn keyword_made(
     object: &Map<String, Value>,
     draft: Draft,
 ) -> Made
-    ensures made { formed shape_of result ≡ made checked (draft_of draft) (fields object.now) (builtin_text keyword) (view value.now) }
+    ensures made { formed shape_of result ≡ made_of_value checked draft object.now keyword value.now }
 {
     if checked && is_format(keyword) {
         format_made(draft, value)
@@ -281,8 +282,7 @@ fn member_maker(
     object: &Map<String, Value>,
     draft: Draft,
 ) -> Result<Maker, OutOfMemory>
-    ensures maker { IfOk result (Begins shape_of (script_found (made checked) (draft_of draft) (fields object.now) (builtin_text keyword)
-        (get_member (builtin_text keyword) (fields object.now)))) }
+    ensures maker { FollowsMember result checked draft object.now keyword }
 {
     let name = keyword.as_str();
     match value_in(object, name) {
@@ -297,8 +297,8 @@ fn member_maker(
 /// A table of `format`, `contentEncoding` and `contentMediaType`.
 ///
 /// It makes `format` if the compiler says that formats are checked: up to draft 7 always, and later
-/// if a vocabulary or an option says so. It makes `contentEncoding` and `contentMediaType` in drafts
-/// 6 and 7. The table owns no name.
+/// if a vocabulary or an option says so. It makes `contentEncoding` and `contentMediaType` in
+/// drafts 6 and 7. The table owns no name.
 #[derive(Drop)]
 pub struct FormatTable {}
 
