@@ -7,3 +7,4 @@ pub mod FamilyModes
 pub mod FamilyClones
 pub mod StandardScripts
 pub mod StandardLaws
+pub mod MakerWords

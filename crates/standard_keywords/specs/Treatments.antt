@@ -1,7 +1,7 @@
--- What the table does with a keyword of the standard, draft by draft. The engine asks the table only
--- for names that the draft has (`schema_drafts`), and compiles references itself. No keyword that
--- asserts or applies subschemas is ignored: a keyword that is not made and that asserts something is
--- refused. (Core 2020-12, 10 and 11; Validation 2020-12, 6 to 8; Core and Validation 2019-09;
+-- What the table does with a keyword of the standard, draft by draft. The engine asks the table
+-- only for names that the draft has (`schema_drafts`), and compiles references itself. The table
+-- ignores no keyword that asserts or applies subschemas: if it does not make it, it refuses the
+-- schema. (Core 2020-12, 10 and 11; Validation 2020-12, 6 to 8; Core and Validation 2019-09;
 -- drafts 4, 6 and 7)
 use Rattle.std.specs.Prelude.{Bool, List, None, Option, Some, [], bytes_eq, codes, false, if◌then◌else◌, not, ◌&&◌, ◌++◌, ◌||◌, ◌∷◌}
 use Rattle.serde_json.specs.Data.{Data, Members}
@@ -21,8 +21,8 @@ asserted_names =
     ∷ codes "minItems" ∷ codes "maxItems" ∷ codes "uniqueItems" ∷ codes "maxProperties" ∷ codes "dependentRequired"
     ∷ codes "minLength" ∷ codes "maxLength" ∷ codes "minProperties" ∷ []
 
--- the keywords that the basic table makes: they assert about texts and members (Validation 2020-12,
--- 6.3.3 and 6.5.3) or apply subschemas (Core 2020-12, 10)
+-- the keywords that `standard_basics` makes: they assert about texts and members (Validation
+-- 2020-12, 6.3.3 and 6.5.3) or apply subschemas (Core 2020-12, 10)
 abbrev pub basic_names : List Text
 basic_names =
     codes "pattern" ∷ codes "required"
@@ -35,15 +35,18 @@ basic_names =
 abbrev pub applied_names : List Text
 applied_names = codes "contains" ∷ codes "dependentSchemas" ∷ codes "dependencies" ∷ []
 
--- before 2020-12, it also makes `additionalItems` (draft 7, 6.4.2) and an `items` whose value is a
--- list, with one schema for each place (draft 7, 6.4.1; Core 2019-09, 9.3.1.1)
+-- whether there is a value and it is a list, in a draft before 2020-12
 abbrev pub is_any_older_list : Draft → Option Data → Bool
 is_any_older_list draft None = false
 is_any_older_list draft (Some d) = is_older_list draft d
 
+-- whether the member is `items` with such a list
 abbrev pub is_older_items : Draft → Members → Text → Bool
 is_older_items draft object name = bytes_eq name (codes "items") && is_any_older_list draft (get_member name object)
 
+-- `standard_applicators` makes the keywords above. Before 2020-12, it also makes `additionalItems`
+-- (draft 7, 6.4.2) and an `items` whose value is a list, with one schema for each place (draft 7,
+-- 6.4.1; Core 2019-09, 9.3.1.1).
 abbrev pub is_applied : Draft → Members → Text → Bool
 is_applied draft object name =
     is_among applied_names name || (is_older_items draft object name || (bytes_eq name (codes "additionalItems") && not (has_prefix draft)))
@@ -54,12 +57,13 @@ abbrev pub gated_names : List Text
 gated_names = codes "patternProperties" ∷ codes "additionalProperties" ∷ []
 
 -- the keywords that `standard_formats` makes: `format`, which asserts if formats are checked
--- (Validation 2020-12, 7), and two that assert in drafts 6 and 7 (draft 7, 8.3 and 8.4), but not later
+-- (Validation 2020-12, 7), and two that assert in drafts 6 and 7 (draft 7, 8.3 and 8.4), but not
+-- later
 abbrev pub formatted_names : List Text
 formatted_names = codes "format" ∷ codes "contentEncoding" ∷ codes "contentMediaType" ∷ []
 
--- the keywords that assert nothing: `contentSchema` (Validation 2020-12, 8.5), and `additionalItems`
--- in drafts that no longer have it
+-- the keywords that assert nothing: `contentSchema` (Validation 2020-12, 8.5), and
+-- `additionalItems` in drafts that no longer have it
 abbrev pub is_silent : Draft → Text → Bool
 is_silent draft name = bytes_eq name (codes "contentSchema") || (bytes_eq name (codes "additionalItems") && has_prefix draft)
 

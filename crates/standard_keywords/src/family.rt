@@ -5,8 +5,8 @@ use std::alloc::Global;
 
 /// A value of one of the five families of the standard's keywords.
 ///
-/// If each is a keyword type, then this is a keyword type too. A keyword, its shape, its run and its
-/// maker are of the same family.
+/// If each is a keyword type, then this is one too. A keyword, its shape, its run and its maker are
+/// of the same family.
 #[derive(Clone, Drop)]
 pub enum Family<A, L, P, F, B> {
     /// A keyword of `standard_assertions`.

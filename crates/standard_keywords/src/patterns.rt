@@ -1,5 +1,5 @@
 //! Patterns of a schema that cannot be read as regular expressions.
-ghost use Rattle.std.specs.Prelude.{◌≡◌, ◌∷◌, [], IfOk, option_map, string_bytes};
+ghost use Rattle.std.specs.Prelude.{◌∷◌, [], string_bytes};
 ghost use Rattle.serde_json.specs.Find.{as_object, as_str, get_member};
 ghost use Rattle.serde_json.specs.View.{view};
 ghost use Rattle.schema_drafts.specs.KeywordViews.{builtin_text};
@@ -9,6 +9,7 @@ ghost use Rattle.keyword_makers.specs.Members.{names_of};
 ghost use Rattle.schema_traits.specs.Showing.{Shows};
 ghost use Rattle.standard_keywords.specs.Patterns.{names_in, pattern_refusal, refusal_among, refusal_in, unreadable_text};
 ghost use Rattle.schema_traits.specs.Readings.{fields};
+ghost use Rattle.standard_keywords.specs.MakerWords.{ShowsRefusal};
 
 use keyword_makers::value_in;
 use regex_matcher::is_readable;
@@ -18,12 +19,15 @@ use schema_traits::KeywordOrigin;
 use serde_json::{Map, Value};
 use std::alloc::Global;
 
-/// What happens to a schema with a pattern that cannot be read as a regular expression.
+/// What happens to a schema with a pattern that cannot be read.
 ///
-/// A pattern is the value of `pattern`, or a name under `patternProperties`.
+/// A pattern is the value of `pattern`, or a name under `patternProperties`. `regex_matcher`
+/// decides whether it can be read as a regular expression.
 #[derive(Clone, Copy)]
 pub enum UnreadablePatterns {
-    /// The schema is refused. The error is located at the keyword and names the pattern.
+    /// The schema is refused.
+    ///
+    /// The error is located at the keyword and names the pattern.
     Refused,
     /// The keyword is made, and the matcher decides what its matches yield.
     LeftToTheMatcher,
@@ -38,7 +42,7 @@ fn unreadable_text(alloc: Global, pattern: &str) -> Result<String, OutOfMemory>
 }
 
 fn refusal_of(alloc: Global, pattern: &str) -> Result<Option<String>, OutOfMemory>
-    ensures refusal { Shows (option_map string_bytes) result (refusal_among (pattern.now ∷ [])) }
+    ensures refusal { ShowsRefusal result (refusal_among (pattern.now ∷ [])) }
 {
     if is_readable(alloc, pattern)? {
         return Ok(None);
@@ -47,12 +51,14 @@ fn refusal_of(alloc: Global, pattern: &str) -> Result<Option<String>, OutOfMemor
     Ok(Some(text))
 }
 
-/// Returns the refusal of the first name that cannot be read as a pattern, if there is one.
+/// Returns the refusal of the first name that cannot be read, if there is one.
+///
+/// Each name is a pattern.
 fn refusal_of_names(
     alloc: Global,
     members: &Map<String, Value>,
 ) -> Result<Option<String>, OutOfMemory>
-    ensures refusal { Shows (option_map string_bytes) result (refusal_among (names_of (fields members.now))) }
+    ensures refusal { ShowsRefusal result (refusal_among (names_of (fields members.now))) }
 {
     for (name, _) in members {
         let refusal = refusal_of(alloc, name.as_str())?;
@@ -65,7 +71,7 @@ fn refusal_of_names(
 
 /// Returns the refusal of the value of `pattern`, if it cannot be read.
 fn refusal_of_pattern(alloc: Global, value: &Value) -> Result<Option<String>, OutOfMemory>
-    ensures refusal { Shows (option_map string_bytes) result (refusal_among (option_list (as_str (view value.now)))) }
+    ensures refusal { ShowsRefusal result (refusal_among (option_list (as_str (view value.now)))) }
 {
     match value.as_str() {
         Some(pattern) => refusal_of(alloc, pattern),
@@ -73,9 +79,11 @@ fn refusal_of_pattern(alloc: Global, value: &Value) -> Result<Option<String>, Ou
     }
 }
 
-/// Returns the refusal of the value of `patternProperties`, if a pattern cannot be read.
+/// Returns the refusal of the value of `patternProperties`, if there is one.
+///
+/// There is one if a name cannot be read as a pattern.
 fn refusal_of_patterns(alloc: Global, value: &Value) -> Result<Option<String>, OutOfMemory>
-    ensures refusal { Shows (option_map string_bytes) result (refusal_among (names_in (as_object (view value.now)))) }
+    ensures refusal { ShowsRefusal result (refusal_among (names_in (as_object (view value.now)))) }
 {
     match value.as_object() {
         Some(members) => refusal_of_names(alloc, members),
@@ -83,13 +91,13 @@ fn refusal_of_patterns(alloc: Global, value: &Value) -> Result<Option<String>, O
     }
 }
 
-/// Returns the refusal of a member that holds a pattern that cannot be read.
+/// Returns the refusal of a member, if it holds a pattern that cannot be read.
 fn refusal_in(
     alloc: Global,
     keyword: BuiltinKeyword,
     value: &Value,
 ) -> Result<Option<String>, OutOfMemory>
-    ensures refusal { Shows (option_map string_bytes) result (refusal_in (builtin_text keyword) (view value.now)) }
+    ensures refusal { ShowsRefusal result (refusal_in (builtin_text keyword) (view value.now)) }
 {
     match keyword {
         BuiltinKeyword::Pattern => refusal_of_pattern(alloc, value),
@@ -138,7 +146,7 @@ fn refusal_in(
     }
 }
 
-/// Returns the text of the refusal, if the table refuses the member because of a pattern.
+/// Returns the text of the refusal, if a pattern is why the table refuses.
 ///
 /// # Errors
 ///
@@ -149,8 +157,8 @@ pub fn pattern_refusal(
     origin: KeywordOrigin<'_>,
     object: &Map<String, Value>,
 ) -> Result<Option<String>, OutOfMemory>
-    ensures refusal { IfOk result (λ found. option_map string_bytes found ≡ pattern_refusal unreadable (is_own origin.entry)
-        (name_of origin.entry) (get_member (name_of origin.entry) (fields object.now))) }
+    ensures refusal { ShowsRefusal result (pattern_refusal unreadable (is_own origin.entry) (name_of origin.entry) (get_member (name_of
+        origin.entry) (fields object.now))) }
 {
     match unreadable {
         UnreadablePatterns::LeftToTheMatcher => Ok(None),

@@ -1,4 +1,4 @@
-//! Steps of makers of one family, as steps of makers of the standard's keywords.
+//! Steps of one family's makers, as steps of the standard table's makers.
 ghost use Rattle.std.specs.Prelude.{◌≡◌};
 ghost use Rattle.keyword_joins.specs.BothScripts.{step_as};
 ghost use Rattle.standard_keywords.specs.declared.family.Family.TheVariants as family;

@@ -1,13 +1,11 @@
 //! The keyword table of the standard.
-ghost use Rattle.std.specs.Prelude.{◌≡◌, string_bytes};
-ghost use Rattle.serde_json.specs.Find.{get_member};
+ghost use Rattle.std.specs.Prelude.{◌≡◌, false, string_bytes};
 ghost use Rattle.theory_definitions.specs.Making.{nothing, then_end};
-ghost use Rattle.schema_drafts.specs.KeywordViews.{builtin_text, draft_of};
+ghost use Rattle.schema_drafts.specs.KeywordViews.{builtin_text};
 ghost use Rattle.schema_traits.specs.MakerViews.{begun, is_own, name_of};
-ghost use Rattle.schema_traits.specs.Readings.{fields};
-ghost use Rattle.schema_traits.specs.Showing.{Shows};
-ghost use Rattle.standard_keywords.specs.StandardScripts.{refused_at, standard_waiting, treated_script};
+ghost use Rattle.standard_keywords.specs.StandardScripts.{standard_waiting};
 ghost use Rattle.standard_keywords.specs.Treatments.{refusal_text};
+ghost use Rattle.standard_keywords.specs.MakerWords.{Follows, script_of_member, script_of_refusal};
 ghost use Rattle.standard_keywords.specs.declared.patterns.UnreadablePatterns.TheVariants as unreadable;
 
 use crate::family::Family;
@@ -48,10 +46,11 @@ type Maker = Family<
 /// The table of the standard's keywords.
 ///
 /// It owns no names. `specs/Treatments` defines what it does with each keyword of each draft: it
-/// makes the keyword, makes nothing if the keyword asserts nothing, or refuses the schema. The error
-/// of a refusal shows the keyword's value and is located at the keyword. The table also refuses a
-/// value of the wrong shape and, unless it is told to leave them, a pattern that cannot be read
-/// (`specs/Patterns`).
+/// makes the keyword, makes nothing if the keyword asserts nothing, or refuses the schema. The
+/// error of a refusal shows the keyword's value and is located at the keyword.
+///
+/// The table also refuses a value of the wrong shape. It refuses a pattern that cannot be read,
+/// unless it leaves such patterns to the matcher (`specs/Patterns`).
 #[derive(Drop)]
 pub struct StandardTable {
     /// What happens to a schema with a pattern that cannot be read.
@@ -59,7 +58,7 @@ pub struct StandardTable {
 }
 
 impl StandardTable {
-    /// Returns the table that refuses a schema with a pattern that cannot be read.
+    /// Returns the table that refuses patterns that cannot be read.
     ///
     /// Such a pattern uses lookaround or a back reference, or is not a pattern.
     pub fn new() -> StandardTable
@@ -98,8 +97,7 @@ fn refused_at(
     object: &Map<String, Value>,
     text: String,
 ) -> Result<Maker, OutOfMemory>
-    ensures maker { Shows standard_waiting result (begun (refused_at name.now (string_bytes text)
-        (get_member name.now (fields object.now)))) }
+    ensures maker { Follows result (script_of_refusal object.now name.now (string_bytes text)) }
 {
     match value_in(object, name) {
         Some(value) => {
@@ -112,8 +110,7 @@ fn refused_at(
 
 /// Returns the maker of the refusal of a keyword that no family has.
 fn unsupported(alloc: Global, name: &str, object: &Map<String, Value>) -> Result<Maker, OutOfMemory>
-    ensures maker { Shows standard_waiting result (begun (refused_at name.now (refusal_text name.now)
-        (get_member name.now (fields object.now)))) }
+    ensures maker { Follows result (script_of_refusal object.now name.now (refusal_text name.now)) }
 {
     let text = refusal_text(alloc, name)?;
     refused_at(alloc, name, object, text)
@@ -128,8 +125,7 @@ fn builtin_maker(
     vocabularies: &VocabularySet,
     formats: bool,
 ) -> Result<Maker, OutOfMemory>
-    ensures maker { Shows standard_waiting result (begun (treated_script false (builtin_text entry.keyword) (fields object.now)
-        (draft_of draft) vocabularies.now formats)) }
+    ensures maker { Follows result (script_of_member false (builtin_text entry.keyword) object.now draft vocabularies.now formats) }
 {
     let origin = KeywordOrigin::Builtin(entry);
     match treatment_of(draft, object, entry.keyword) {
@@ -165,7 +161,7 @@ fn builtin_maker(
 
 /// Returns the maker of a keyword.
 ///
-/// The keyword holds no pattern because of which the table refuses the schema.
+/// The caller has found no pattern to refuse.
 fn maker_of(
     alloc: Global,
     origin: KeywordOrigin<'_>,
@@ -174,8 +170,8 @@ fn maker_of(
     vocabularies: &VocabularySet,
     formats: bool,
 ) -> Result<Maker, OutOfMemory>
-    ensures maker { Shows standard_waiting result (begun (treated_script (is_own origin.entry) (name_of origin.entry) (fields object.now)
-        (draft_of draft) vocabularies.now formats)) }
+    ensures maker { Follows result (script_of_member (is_own origin.entry) (name_of origin.entry) object.now draft vocabularies.now
+        formats) }
 {
     match origin {
         KeywordOrigin::Own(_) => Ok(no_keyword(alloc)),

@@ -1,8 +1,8 @@
 //! What the table does with each keyword of the standard.
 //!
-//! One function of draft, object and name decides which table makes a keyword. `unevaluatedItems` and
-//! `unevaluatedProperties` are refused: what a subschema evaluated is known through references, and no
-//! turn sees it.
+//! One function of draft, object and name decides which table makes a keyword. `unevaluatedItems`
+//! and `unevaluatedProperties` are refused: they depend on what subschemas evaluate, also through
+//! references, and no turn sees that.
 ghost use Rattle.std.specs.Prelude.{◌≡◌, codes, string_bytes};
 ghost use Rattle.serde_json.specs.Find.{get_member};
 ghost use Rattle.schema_drafts.specs.KeywordViews.{builtin_text, draft_of};
@@ -27,7 +27,7 @@ pub enum Treatment {
     Applied,
     /// `standard_pattern_properties` makes it.
     Gated,
-    /// The basic table makes it (`standard_basics`).
+    /// `standard_basics` makes it.
     Basic,
     /// `standard_formats` makes it, if it asserts.
     Formatted,
@@ -49,8 +49,9 @@ fn has_older_items(draft: Draft, object: &Map<String, Value>) -> bool
     }
 }
 
-/// Returns whether `items` continues after `prefixItems` in this draft. Such a draft has no
-/// `additionalItems`.
+/// Returns whether `items` continues after `prefixItems` in this draft.
+///
+/// Such a draft has no `additionalItems`.
 fn has_prefix(draft: Draft) -> bool
     ensures prefix { result ≡ has_prefix (draft_of draft) }
 {
@@ -61,7 +62,9 @@ fn has_prefix(draft: Draft) -> bool
     }
 }
 
-/// Returns what the table does with a member of an object, in a draft that has the keyword.
+/// Returns what the table does with the member of an object under this keyword.
+///
+/// The draft is one that has the keyword.
 pub fn treatment_of(draft: Draft, object: &Map<String, Value>, keyword: BuiltinKeyword) -> Treatment
     ensures treated { result ≡ treated (draft_of draft) (fields object.now) (builtin_text keyword) }
 {
