@@ -10,3 +10,4 @@ pub mod DocumentPointers
 pub mod DocumentPointersLead
 pub mod DocumentUris
 pub mod DocumentKeys
+pub mod FoundWords

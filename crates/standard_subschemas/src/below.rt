@@ -1,18 +1,19 @@
 //! Subschemas of schemas.
-ghost use Rattle.std.specs.Prelude.{◌≡◌, ◌++◌, ◌∷◌, [], map, IfOk, IfSome};
+ghost use Rattle.std.specs.Prelude.{◌≡◌, ◌++◌, map, IfOk, IfSome, OnOk};
 ghost use Rattle.std.specs.Rc.{rc_str_bytes};
 ghost use Rattle.serde_json.specs.Find.{get};
 ghost use Rattle.serde_json.specs.Data.{object};
 ghost use Rattle.serde_json.specs.View.{view};
 ghost use Rattle.theory_definitions.specs.Drafts.{at_path};
 ghost use Rattle.schema_drafts.specs.KeywordViews.{draft_of};
-ghost use Rattle.schema_traits.specs.ResolverViews.{place_of, placed_of};
+ghost use Rattle.schema_traits.specs.ResolverViews.{place_of};
 ghost use Rattle.standard_subschemas.specs.SubschemaRules.{below_list, below_object, below_value, is_schema};
 ghost use Rattle.standard_subschemas.specs.SubschemaRules.{subschemas};
-ghost use Rattle.standard_subschemas.specs.FoundSchemas.{found_at, schema_if};
-ghost use Rattle.standard_subschemas.specs.FoundViews.{AddsBelow, AddsBelowEach, below, found_of, path_of, placed_at, steps_inside};
+ghost use Rattle.standard_subschemas.specs.FoundSchemas.{schema_if};
+ghost use Rattle.standard_subschemas.specs.FoundViews.{below, found_of, path_of, steps_inside};
 ghost use Rattle.schema_traits.specs.Showing.{Shows};
 ghost use Rattle.schema_traits.specs.Readings.{fields, value_read};
+ghost use Rattle.standard_subschemas.specs.FoundWords.{FindsBelow, FindsBelowEach, ListsFound, ListsPlaced, ListsPlaces, subschemas_in};
 
 use crate::plain::any_names_schemas;
 use crate::rules::Rule;
@@ -62,7 +63,7 @@ impl<'v> FoundSchema<'v> {
     ///
     /// Out of memory.
     pub fn add_steps(&self, alloc: Global, path: &mut SchemaPath) -> Result<(), OutOfMemory>
-        ensures added { IfOk result (λ _. path.new ≡ path.old ++ path_of self.now) }
+        ensures added { OnOk result (path.new ≡ path.old ++ path_of self.now) }
     {
         path.push(SchemaStep::Member(RcStr::from_str(alloc, self.keyword)?))?;
         self.add_inside(alloc, path)
@@ -70,7 +71,7 @@ impl<'v> FoundSchema<'v> {
 
     /// Appends the step from the keyword's value to the subschema to a path.
     fn add_inside(&self, alloc: Global, path: &mut SchemaPath) -> Result<(), OutOfMemory>
-        ensures added { IfOk result (λ _. path.new ≡ path.old ++ steps_inside self.now.inside) }
+        ensures added { OnOk result (path.new ≡ path.old ++ steps_inside self.now.inside) }
     {
         match self.inside {
             Inside::Nothing => Ok(()),
@@ -82,7 +83,7 @@ impl<'v> FoundSchema<'v> {
 
 /// Adds a value, if it is a schema.
 fn add_schema<'v>(one: FoundSchema<'v>, found: &mut Vec<FoundSchema<'v>>) -> Result<(), OutOfMemory>
-    ensures added { IfOk result (λ _. map found_of found.new.items ≡ map found_of found.old.items ++ schema_if (found_of one.entry)) }
+    ensures added { OnOk result (map found_of found.new.items ≡ map found_of found.old.items ++ schema_if (found_of one.entry)) }
 {
     if is_schema(one.schema) {
         found.push(one)?;
@@ -96,7 +97,7 @@ fn find_in_object<'v>(
     keyword: &'v str,
     found: &mut Vec<FoundSchema<'v>>,
 ) -> Result<(), OutOfMemory>
-    ensures found { IfOk result (λ _. AddsBelow (object (fields members.now)) below_object keyword.now found.old.items found.new.items) }
+    ensures found { FindsBelow result found.old found.new members.now below_object keyword.now }
 {
     let Some(value) = member(members, keyword) else {
         return Ok(());
@@ -121,7 +122,7 @@ fn find_in_list<'v>(
     keyword: &'v str,
     found: &mut Vec<FoundSchema<'v>>,
 ) -> Result<(), OutOfMemory>
-    ensures found { IfOk result (λ _. AddsBelow (object (fields members.now)) below_list keyword.now found.old.items found.new.items) }
+    ensures found { FindsBelow result found.old found.new members.now below_list keyword.now }
 {
     let Some(value) = member(members, keyword) else {
         return Ok(());
@@ -146,7 +147,7 @@ fn find_value<'v>(
     keyword: &'v str,
     found: &mut Vec<FoundSchema<'v>>,
 ) -> Result<(), OutOfMemory>
-    ensures found { IfOk result (λ _. AddsBelow (object (fields members.now)) below_value keyword.now found.old.items found.new.items) }
+    ensures found { FindsBelow result found.old found.new members.now below_value keyword.now }
 {
     let Some(value) = member(members, keyword) else {
         return Ok(());
@@ -175,7 +176,7 @@ fn find_under<'v>(
     keyword: &'v str,
     found: &mut Vec<FoundSchema<'v>>,
 ) -> Result<(), OutOfMemory>
-    ensures found { IfOk result (λ _. AddsBelow (object (fields members.now)) (below lying) keyword.now found.old.items found.new.items) }
+    ensures found { FindsBelow result found.old found.new members.now (below lying) keyword.now }
 {
     match lying {
         Lying::InObject => find_in_object(members, keyword, found),
@@ -190,8 +191,7 @@ fn find_under_each<'v>(
     keywords: &[&'v str],
     found: &mut Vec<FoundSchema<'v>>,
 ) -> Result<(), OutOfMemory>
-    ensures found { IfOk result (λ _. AddsBelowEach (object (fields members.now)) (below lying) (map (λ k. k.now) keywords.now)
-        found.old.items found.new.items) }
+    ensures found { FindsBelowEach result found.old found.new members.now (below lying) keywords.now }
 {
     for keyword in keywords {
         find_under(lying, members, *keyword, found)?;
@@ -206,8 +206,7 @@ fn found_in<'v>(
     draft: Draft,
     members: &'v Map<String, Value>,
 ) -> Result<Vec<FoundSchema<'v>>, OutOfMemory>
-    ensures found { IfOk result (λ found. let schema = object (fields members.now) in map found_of found.items ≡ map (found_at schema)
-        (subschemas rule (draft_of draft) schema)) }
+    ensures found { ListsFound result (subschemas_in rule draft (object (fields members.now))) }
 {
     let mut found = Vec::new(alloc);
     let objects = names_of_objects(rule, draft);
@@ -230,8 +229,7 @@ pub fn subschemas_found<'v>(
     draft: Draft,
     schema: &'v Value,
 ) -> Result<Vec<FoundSchema<'v>>, OutOfMemory>
-    ensures found { IfOk result (λ found. map found_of found.items ≡ map (found_at (view schema.now))
-        (subschemas rule (draft_of draft) (view schema.now))) }
+    ensures found { ListsFound result (subschemas_in rule draft (view schema.now)) }
 {
     match schema {
         Value::Object(members) => {
@@ -306,7 +304,7 @@ fn places_found(
     place: &SchemaPlace,
     found: &[FoundSchema<'_>],
 ) -> Result<Vec<SchemaPlace>, OutOfMemory>
-    ensures places { IfOk result (λ places. map place_of places.items ≡ map (at_path (place_of place.now)) (map path_of found.now)) }
+    ensures places { ListsPlaces result place.now (map path_of found.now) }
 {
     let mut places = Vec::with_capacity(alloc, found.len())?;
     let mut last = None;
@@ -321,7 +319,7 @@ fn placed_found<'v>(
     place: &SchemaPlace,
     found: &[FoundSchema<'v>],
 ) -> Result<Vec<PlacedSchema<'v>>, OutOfMemory>
-    ensures placed { IfOk result (λ ps. map placed_of ps.items ≡ map (placed_at (place_of place.now)) (map found_of found.now)) }
+    ensures placed { ListsPlaced result place.now (map found_of found.now) }
 {
     let mut placed = Vec::with_capacity(alloc, found.len())?;
     let mut last = None;
@@ -349,8 +347,7 @@ pub fn subschemas_placed<'v>(
     place: &SchemaPlace,
     schema: &'v Value,
 ) -> Result<Vec<PlacedSchema<'v>>, OutOfMemory>
-    ensures placed { IfOk result (λ ps. map placed_of ps.items
-        ≡ map (placed_at (place_of place.now)) (map (found_at (view schema.now)) (subschemas rule (draft_of draft) (view schema.now)))) }
+    ensures placed { ListsPlaced result place.now (subschemas_in rule draft (view schema.now)) }
 {
     let found = subschemas_found(alloc, rule, draft, schema)?;
     placed_found(alloc, place, found.as_slice())
@@ -368,8 +365,7 @@ pub fn subschemas(
     place: &SchemaPlace,
     schema: &Value,
 ) -> Result<Vec<SchemaPlace>, OutOfMemory>
-    ensures places { IfOk result (λ places. map place_of places.items ≡ map (at_path (place_of place.now))
-        (subschemas rule (draft_of draft) (view schema.now))) }
+    ensures places { ListsPlaces result place.now (subschemas rule (draft_of draft) (view schema.now)) }
 {
     let found = subschemas_found(alloc, rule, draft, schema)?;
     places_found(alloc, place, found.as_slice())

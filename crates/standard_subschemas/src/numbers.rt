@@ -1,5 +1,5 @@
 //! Lists whose elements are found by a text.
-ghost use Rattle.std.specs.Prelude.{IfOk};
+ghost use Rattle.std.specs.Prelude.{OnOk};
 ghost use Rattle.std.specs.HashMap.{get_by_text};
 ghost use Rattle.schema_traits.specs.Readings.{text_read};
 ghost use Rattle.standard_subschemas.specs.DocumentKeys.{NumbersNext};
@@ -21,7 +21,7 @@ pub fn add_number(
     text: Option<&str>,
     number: usize,
 ) -> Result<(), OutOfMemory>
-    ensures added { IfOk result (λ _. NumbersNext (get_by_text numbers.old) (get_by_text numbers.new) number (text_read text.entry)) }
+    ensures added { OnOk result (NumbersNext (get_by_text numbers.old) (get_by_text numbers.new) number (text_read text.entry)) }
 {
     if let Some(text) = text {
         if numbers.get(text).is_none() {

@@ -1,7 +1,7 @@
 //! The names of the keywords that hold subschemas.
-ghost use Rattle.std.specs.Prelude.{◌≡◌, map};
 ghost use Rattle.schema_drafts.specs.KeywordViews.{draft_of};
 ghost use Rattle.standard_subschemas.specs.SubschemaRules.{names_of_lists, names_of_objects, names_of_values};
+ghost use Rattle.standard_subschemas.specs.FoundWords.{AreNames};
 ghost use Rattle.standard_subschemas.specs.StandardNames as standard;
 
 use crate::rules::Rule;
@@ -9,7 +9,7 @@ use schema_drafts::Draft;
 
 /// Returns the keywords whose subschemas are the members of an object.
 pub fn names_of_objects(rule: Rule, draft: Draft) -> &'static [&'static str]
-    ensures names { map (λ k. k.now) result.now ≡ names_of_objects rule (draft_of draft) }
+    ensures names { AreNames result.now (names_of_objects rule (draft_of draft)) }
 {
     match rule {
         Rule::Narrow => &["$defs", "definitions", "properties"],
@@ -34,7 +34,7 @@ pub fn names_of_objects(rule: Rule, draft: Draft) -> &'static [&'static str]
 
 /// Returns the keywords whose subschemas are the items of a list.
 pub fn names_of_lists(rule: Rule, draft: Draft) -> &'static [&'static str]
-    ensures names { map (λ k. k.now) result.now ≡ names_of_lists rule (draft_of draft) }
+    ensures names { AreNames result.now (names_of_lists rule (draft_of draft)) }
 {
     match rule {
         Rule::Narrow => &["allOf", "anyOf", "oneOf", "prefixItems"],
@@ -47,7 +47,7 @@ pub fn names_of_lists(rule: Rule, draft: Draft) -> &'static [&'static str]
 
 /// Returns the keywords whose value is itself a subschema.
 pub fn names_of_values(rule: Rule, draft: Draft) -> &'static [&'static str]
-    ensures names { map (λ k. k.now) result.now ≡ names_of_values rule (draft_of draft) }
+    ensures names { AreNames result.now (names_of_values rule (draft_of draft)) }
 {
     match rule {
         Rule::Narrow => &["not", "if", "then", "else", "items", "propertyNames"],
@@ -56,7 +56,7 @@ pub fn names_of_values(rule: Rule, draft: Draft) -> &'static [&'static str]
 }
 
 fn standard_values(draft: Draft) -> &'static [&'static str]
-    ensures names { map (λ k. k.now) result.now ≡ standard.names_of_values (draft_of draft) }
+    ensures names { AreNames result.now (standard.names_of_values (draft_of draft)) }
 {
     match draft {
         Draft::Draft4 => &["not", "items", "additionalItems", "additionalProperties"],
