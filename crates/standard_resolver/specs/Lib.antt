@@ -16,3 +16,5 @@ pub mod ResolverStart
 pub mod OnWay
 pub mod ResolverLaws
 pub mod SubschemaLaws
+pub mod TargetWords
+pub mod WalkWords

@@ -1,5 +1,5 @@
 -- The resources that the code has gathered.
-use Rattle.std.specs.Prelude.{List, map, ◌≡◌}
+use Rattle.std.specs.Prelude.{List, OnOk, Result, map, ◌≡◌}
 use Rattle.std.specs.HashMap.{get_by_text}
 use Rattle.standard_resolver.specs.declared.resources.Gathered.{Gathered}
 use Rattle.standard_subschemas.specs.DocumentKeys.{IsNumbered}
@@ -16,3 +16,7 @@ IsFound g = IsNumbered (map resource_key (list_of g)) (get_by_text g.numbers)
 -- the new list also has these resources, except those whose URI an earlier one has
 abbrev pub Adds : List Resource → Gathered → Gathered → Type 0
 Adds added old new = IsFound old → (list_of new ≡ with_resources (list_of old) added) × IsFound new
+
+-- if the result is `Ok`, these resources were added
+abbrev pub Gathers : {A E : Type 0} → Result A E → Gathered → Gathered → List Resource → Type 0
+Gathers result old new added = OnOk result (Adds added old new)

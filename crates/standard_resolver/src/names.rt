@@ -3,15 +3,16 @@
 //! A name is compared with the fragment of a reference as both are written; only pointers are
 //! decoded. An empty name is never looked up, since an empty fragment leads to the root. If the
 //! `$anchor` and the `$dynamicAnchor` of a schema are the same text, the `$anchor` comes first.
-ghost use Rattle.std.specs.Prelude.{◌≡◌, IfOk, map, option_and_then, option_map, slice_get};
+ghost use Rattle.std.specs.Prelude.{◌≡◌, map, option_map, OnOk};
 ghost use Rattle.std.specs.HashMap.{get_by_text};
 ghost use Rattle.standard_subschemas.specs.DocumentKeys.{IsNumbered};
-ghost use Rattle.standard_resolver.specs.DocumentResources.{dynamic_key, dynamic_number, name_if, name_key, name_number, names_at, names_in};
+ghost use Rattle.standard_resolver.specs.DocumentResources.{dynamic_key, name_if, name_key, names_at, names_in};
 ghost use Rattle.standard_resolver.specs.DocumentNameViews.{name_of};
 ghost use Rattle.standard_resolver.specs.DocumentViews.{visited_of};
 ghost use Rattle.schema_traits.specs.Readings.{text_read};
 ghost use Rattle.schema_traits.specs.Showing.{Yields};
 ghost use Rattle.standard_resolver.specs.DocumentShowing.{Appends};
+ghost use Rattle.standard_resolver.specs.TargetWords.{first_dynamic_named, first_named};
 
 use crate::walk::{Visited, walked};
 use schema_drafts::Draft;
@@ -62,7 +63,7 @@ impl Model for Names {
 impl Names {
     /// Returns the first name with a text.
     pub fn find(&self, text: &str) -> Option<&Name>
-        ensures first { option_map (λ x. name_of x.now) result ≡ option_and_then (slice_get self.now) (name_number text.now self.now) }
+        ensures first { option_map (λ x. name_of x.now) result ≡ first_named text.now self.now }
     {
         match self.numbers.get(text) {
             Some(number) => self.names.get(*number),
@@ -72,7 +73,7 @@ impl Names {
 
     /// Returns the first dynamic name with a text.
     pub fn find_dynamic(&self, text: &str) -> Option<&Name>
-        ensures first { option_map (λ x. name_of x.now) result ≡ option_and_then (slice_get self.now) (dynamic_number text.now self.now) }
+        ensures first { option_map (λ x. name_of x.now) result ≡ first_dynamic_named text.now self.now }
     {
         match self.dynamic_numbers.get(text) {
             Some(number) => self.names.get(*number),
@@ -88,8 +89,8 @@ fn push_name(
     is_dynamic: bool,
     names: &mut Vec<Name>,
 ) -> Result<(), OutOfMemory>
-    ensures pushed { IfOk result (λ _. Appends name_of names.old.items names.new.items
-        (name_if (text_read name.entry) is_dynamic (visited_of visited.now))) }
+    ensures pushed { OnOk result (Appends name_of names.old.items names.new.items (name_if (text_read name.entry) is_dynamic (visited_of
+        visited.now))) }
 {
     if let Some(name) = name {
         names.push(Name {
@@ -108,7 +109,7 @@ fn push_names(
     visited: &Visited<'_>,
     names: &mut Vec<Name>,
 ) -> Result<(), OutOfMemory>
-    ensures pushed { IfOk result (λ _. Appends name_of names.old.items names.new.items (names_at rule (visited_of visited.now))) }
+    ensures pushed { OnOk result (Appends name_of names.old.items names.new.items (names_at rule (visited_of visited.now))) }
 {
     let plain = plain_name(rule, visited.draft, visited.schema);
     push_name(alloc, visited, plain, false, names)?;

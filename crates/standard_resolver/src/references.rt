@@ -2,22 +2,18 @@
 //!
 //! A dynamic reference enters the resource that it leads into, which need not be the one that its
 //! URI names.
-ghost use Rattle.std.specs.Prelude.{[], option_and_then, option_map, slice_get};
 ghost use Rattle.serde_json.specs.View.{view};
 ghost use Rattle.theory_definitions.specs.Parts.{Parts};
-ghost use Rattle.schema_traits.specs.ResolverViews.{found_of};
 ghost use Rattle.standard_subschemas.specs.Refusals.{RefusesWith};
-ghost use Rattle.standard_resolver.specs.ResolverDocuments.{value_in};
-ghost use Rattle.standard_resolver.specs.DocumentLookups.{arrived, dynamic_in, first_dynamic, first_recursive, looked_up, looked_up_recursive};
+ghost use Rattle.standard_resolver.specs.DocumentLookups.{dynamic_in, first_dynamic, first_recursive, looked_up, looked_up_recursive};
 ghost use Rattle.standard_resolver.specs.DocumentLookups.{no_base, not_at_hand, nothing_there, recursive_in, target_by_fragment, target_by_name};
-ghost use Rattle.standard_resolver.specs.DocumentLookups.{target_by_pointer, target_named, target_root};
-ghost use Rattle.standard_resolver.specs.DocumentResources.{name_number, place_of_resource};
+ghost use Rattle.standard_resolver.specs.DocumentLookups.{target_named, target_root};
 ghost use Rattle.standard_resolver.specs.ResolverStart.{NarrowBasesStand, StartsAtInnermost};
 ghost use Rattle.standard_resolver.specs.DocumentStates.{Point};
 ghost use Rattle.standard_resolver.specs.DocumentNameViews.{name_of};
 ghost use Rattle.standard_resolver.specs.DocumentResourceViews.{resource_of};
 ghost use Rattle.standard_resolver.specs.DocumentViews.{held, point_of};
-ghost use Rattle.schema_traits.specs.Showing.{Shows, Agrees};
+ghost use Rattle.standard_resolver.specs.TargetWords.{LeadsTo, ShowsTarget, ShowsTargetIf, arrived_from, first_named, target_pointed_at};
 
 use crate::documents::Documents;
 use crate::names::Name;
@@ -76,10 +72,8 @@ fn arrived(
     path: &SchemaPath,
     state: DocumentState,
 ) -> Result<Target<DocumentState>, LookupError>
-    ensures leads { let r = resource_of resource.now in
-        let schema = view root.now in
-        Agrees (found_of point_of) result
-        (arrived resources.now reference.now r.document r.draft schema [] schema r.path (point_of state) path.now) }
+    ensures leads { LeadsTo result (arrived_from resources.now reference.now (resource_of resource.now) (view root.now) (point_of state)
+        path.now) }
 {
     let mut place = resource.place()?;
     let mut state = state;
@@ -117,9 +111,8 @@ fn target_by_pointer(
     state: DocumentState,
     pointer: &str,
 ) -> Result<Target<DocumentState>, LookupError>
-    ensures leads { let r = resource_of resource.now in
-        Agrees (found_of point_of) result (target_by_pointer resources.now reference.now r (point_of state) pointer.now
-        (value_in (held documents.now) (place_of_resource r))) }
+    ensures leads { LeadsTo result (target_pointed_at (held documents.now) resources.now reference.now (resource_of resource.now)
+        (point_of state) pointer.now) }
 {
     let place = resource.place()?;
     let Some(root) = documents.value_at(&place) else {
@@ -139,8 +132,7 @@ fn target_named(
     state: &DocumentState,
     name: &Name,
 ) -> Result<Target<DocumentState>, OutOfMemory>
-    ensures target { Shows (found_of point_of) result
-        (target_named number (resource_of resource.now) (point_of state.now) (name_of name.now)) }
+    ensures target { ShowsTarget result (target_named number (resource_of resource.now) (point_of state.now) (name_of name.now)) }
 {
     Ok(Target {
         place: SchemaPlace {
@@ -160,7 +152,7 @@ fn dynamic_in(
     name: &str,
     number: usize,
 ) -> Result<Option<Target<DocumentState>>, OutOfMemory>
-    ensures target { Shows (option_map (found_of point_of)) result (dynamic_in resources.now (point_of state.now) name.now number) }
+    ensures target { ShowsTargetIf result (dynamic_in resources.now (point_of state.now) name.now number) }
 {
     let Some(resource) = resources.get(number) else {
         return Ok(None);
@@ -178,8 +170,7 @@ fn first_dynamic(
     state: &DocumentState,
     name: &str,
 ) -> Result<Option<Target<DocumentState>>, OutOfMemory>
-    ensures target { Shows (option_map (found_of point_of)) result
-        (first_dynamic resources.now (point_of state.now) name.now (point_of state.now).entered) }
+    ensures target { ShowsTargetIf result (first_dynamic resources.now (point_of state.now) name.now (point_of state.now).entered) }
 {
     for number in state.entered.as_ref() {
         if let Some(target) = dynamic_in(alloc, resources, state, name, *number)? {
@@ -201,10 +192,8 @@ fn target_by_name(
     state: &DocumentState,
     text: &str,
 ) -> Result<Target<DocumentState>, LookupError>
-    ensures leads { let r = resource_of resource.now in
-        let name = option_and_then (slice_get r.names) (name_number text.now r.names) in
-        Agrees (found_of point_of) result (target_by_name resources.now followed.entry.reference.now number r (point_of state.now)
-        followed.entry.dynamic text.now name) }
+    ensures leads { let r = resource_of resource.now in LeadsTo result (target_by_name resources.now followed.entry.reference.now number
+        r (point_of state.now) followed.entry.dynamic text.now (first_named text.now r.names)) }
 {
     let Some(name) = resource.names.find(text) else {
         let refused = "nothing has the name of the reference ";
@@ -224,7 +213,7 @@ fn target_root(
     resource: &Resource,
     state: &DocumentState,
 ) -> Result<Target<DocumentState>, OutOfMemory>
-    ensures target { Shows (found_of point_of) result (target_root number (resource_of resource.now) (point_of state.now)) }
+    ensures target { ShowsTarget result (target_root number (resource_of resource.now) (point_of state.now)) }
 {
     Ok(Target {
         place: resource.place()?,
@@ -246,8 +235,8 @@ fn target_by_fragment(
     state: &DocumentState,
     fragment: &str,
 ) -> Result<Target<DocumentState>, LookupError>
-    ensures leads { Agrees (found_of point_of) result (target_by_fragment resources.now (held documents.now)
-        followed.entry.reference.now number (resource_of resource.now) (point_of state.now) followed.entry.dynamic fragment.now) }
+    ensures leads { LeadsTo result (target_by_fragment resources.now (held documents.now) followed.entry.reference.now number
+        (resource_of resource.now) (point_of state.now) followed.entry.dynamic fragment.now) }
 {
     if fragment.is_empty() {
         return Ok(target_root(alloc, number, resource, state)?);
@@ -280,8 +269,7 @@ pub fn looked_up(
     reference: &str,
     dynamic: bool,
 ) -> Result<Target<DocumentState>, LookupError>
-    ensures leads { Agrees (found_of point_of) result
-        (looked_up resources.now (held documents.now) (point_of state.now) reference.now dynamic) }
+    ensures leads { LeadsTo result (looked_up resources.now (held documents.now) (point_of state.now) reference.now dynamic) }
 {
     let rule = resources.rule();
     let uri = resolve_uri(alloc, rule, state.base.as_str(), reference)?;
@@ -305,7 +293,7 @@ fn recursive_in(
     state: &DocumentState,
     number: usize,
 ) -> Result<Option<Target<DocumentState>>, OutOfMemory>
-    ensures target { Shows (option_map (found_of point_of)) result (recursive_in resources.now (point_of state.now) number) }
+    ensures target { ShowsTargetIf result (recursive_in resources.now (point_of state.now) number) }
 {
     match resources.get(number) {
         Some(resource) if resource.is_recursive => {
@@ -321,8 +309,7 @@ fn first_recursive(
     resources: &Resources,
     state: &DocumentState,
 ) -> Result<Option<Target<DocumentState>>, OutOfMemory>
-    ensures target { Shows (option_map (found_of point_of)) result
-        (first_recursive resources.now (point_of state.now) (point_of state.now).entered) }
+    ensures target { ShowsTargetIf result (first_recursive resources.now (point_of state.now) (point_of state.now).entered) }
 {
     for number in state.entered.as_ref() {
         if let Some(target) = recursive_in(alloc, resources, state, *number)? {
@@ -351,7 +338,7 @@ pub fn looked_up_recursive(
     resources: &Resources,
     state: &DocumentState,
 ) -> Result<Target<DocumentState>, LookupError>
-    ensures leads { Agrees (found_of point_of) result (looked_up_recursive resources.now (point_of state.now)) }
+    ensures leads { LeadsTo result (looked_up_recursive resources.now (point_of state.now)) }
 {
     let Some(number) = resources.number_of(state.base.as_str()) else {
         return Err(no_base(alloc, state.base.as_str()));

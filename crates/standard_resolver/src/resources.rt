@@ -4,7 +4,7 @@
 //! differs from the URI that the document is supplied under; both have the identifier's base. If
 //! several resources have one URI, the first is found. Entering a later one is refused, because the
 //! state holds only a URI as its base, which would mean the first.
-ghost use Rattle.std.specs.Prelude.{◌≡◌, ◌∷◌, [], IfOk, flat_map, map, option_map, slice_get, string_bytes};
+ghost use Rattle.std.specs.Prelude.{◌≡◌, ◌∷◌, [], flat_map, map, option_map, slice_get, string_bytes};
 ghost use Rattle.serde_json.specs.View.{view};
 ghost use Rattle.schema_drafts.specs.KeywordViews.{draft_of};
 ghost use Rattle.schema_traits.specs.ResolverViews.{place_of};
@@ -13,7 +13,7 @@ ghost use Rattle.standard_resolver.specs.DocumentResources.{document_resource, d
 ghost use Rattle.standard_resolver.specs.DocumentResources.{identified, identified_root, is_recursive, number_of, place_of_resource};
 ghost use Rattle.standard_resolver.specs.DocumentResources.{root_visited, table_for};
 ghost use Rattle.standard_resolver.specs.DocumentStates.{number_at, resource_under};
-ghost use Rattle.standard_resolver.specs.ResourcesGathered.{Adds};
+ghost use Rattle.standard_resolver.specs.ResourcesGathered.{Gathers};
 ghost use Rattle.standard_resolver.specs.DocumentResourceViews.{resource_of};
 ghost use Rattle.standard_resolver.specs.DocumentViews.{held, visited_of, document_under};
 ghost use Rattle.schema_traits.specs.Showing.{Yields, Shows};
@@ -174,7 +174,7 @@ fn add_resource(
     gathered: &mut Gathered,
     resource: Resource,
 ) -> Result<(), OutOfMemory>
-    ensures added { IfOk result (λ _. Adds (resource_of resource ∷ []) gathered.old gathered.new) }
+    ensures added { Gathers result gathered.old gathered.new (resource_of resource ∷ []) }
 {
     if gathered.numbers.get(resource.uri.as_str()).is_none() {
         let number = gathered.resources.len();
@@ -197,7 +197,7 @@ fn add_identified(
     visited: &Visited<'_>,
     gathered: &mut Gathered,
 ) -> Result<(), OutOfMemory>
-    ensures added { IfOk result (λ _. Adds (identified rule document (visited_of visited.now)) gathered.old gathered.new) }
+    ensures added { Gathers result gathered.old gathered.new (identified rule document (visited_of visited.now)) }
 {
     let own = uri_of(
         alloc,
@@ -222,7 +222,7 @@ fn add_identified_root(
     root: &Visited<'_>,
     gathered: &mut Gathered,
 ) -> Result<(), OutOfMemory>
-    ensures added { IfOk result (λ _. Adds (identified_root rule document (visited_of root.now)) gathered.old gathered.new) }
+    ensures added { Gathers result gathered.old gathered.new (identified_root rule document (visited_of root.now)) }
 {
     match rule {
         Rule::Narrow => Ok(()),
@@ -255,7 +255,7 @@ fn add_all_identified(
     all: &[Visited<'_>],
     gathered: &mut Gathered,
 ) -> Result<(), OutOfMemory>
-    ensures added { IfOk result (λ _. Adds (flat_map (identified rule document) (map visited_of all.now)) gathered.old gathered.new) }
+    ensures added { Gathers result gathered.old gathered.new (flat_map (identified rule document) (map visited_of all.now)) }
 {
     for visited in all {
         add_identified(alloc, rule, document, visited, gathered)?;
@@ -272,8 +272,8 @@ fn add_embedded(
     value: &Value,
     gathered: &mut Gathered,
 ) -> Result<(), OutOfMemory>
-    ensures added { IfOk result (λ _. Adds (embedded rule (draft_of draft) document
-        (document_under uri.now value.now)) gathered.old gathered.new) }
+    ensures added { Gathers result gathered.old gathered.new (embedded rule (draft_of draft) document (document_under uri.now
+        value.now)) }
 {
     let root = root_visited(alloc, draft, uri, value)?;
     let base = root_base(alloc, rule, uri, root.draft, value)?;
@@ -300,8 +300,8 @@ fn add_document(
     value: &Value,
     gathered: &mut Gathered,
 ) -> Result<(), OutOfMemory>
-    ensures added { IfOk result (λ _. Adds (document_resource rule (draft_of draft) document
-        (document_under uri.now value.now) ∷ []) gathered.old gathered.new) }
+    ensures added { Gathers result gathered.old gathered.new (document_resource rule (draft_of draft) document (document_under uri.now
+        value.now) ∷ []) }
 {
     let root = root_visited(alloc, draft, uri, value)?;
     let own = String::from_str(alloc, without_fragment(uri))?;
@@ -318,7 +318,7 @@ fn add_documents(
     documents: &Documents<'_>,
     gathered: &mut Gathered,
 ) -> Result<(), OutOfMemory>
-    ensures added { IfOk result (λ _. Adds (document_resources rule (draft_of draft) 0 (held documents.now)) gathered.old gathered.new) }
+    ensures added { Gathers result gathered.old gathered.new (document_resources rule (draft_of draft) 0 (held documents.now)) }
 {
     let uri = documents.uri.as_str();
     add_document(alloc, rule, draft, 0, uri, documents.root, gathered)?;
@@ -336,7 +336,7 @@ fn add_all_embedded(
     documents: &Documents<'_>,
     gathered: &mut Gathered,
 ) -> Result<(), OutOfMemory>
-    ensures added { IfOk result (λ _. Adds (embedded_resources rule (draft_of draft) 0 (held documents.now)) gathered.old gathered.new) }
+    ensures added { Gathers result gathered.old gathered.new (embedded_resources rule (draft_of draft) 0 (held documents.now)) }
 {
     let uri = documents.uri.as_str();
     add_embedded(alloc, rule, draft, 0, uri, documents.root, gathered)?;

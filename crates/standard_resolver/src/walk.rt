@@ -2,16 +2,16 @@
 //!
 //! The walk carries the base, as a state does. So a nested identifier is resolved in the same way
 //! when its resource is found and when it is entered.
-ghost use Rattle.std.specs.Prelude.{◌≡◌, ◌<◌, ℕ, IfOk, map};
+ghost use Rattle.std.specs.Prelude.{◌≡◌, OnOk};
 ghost use Rattle.std.specs.List.{filter};
-ghost use Rattle.serde_json.specs.Data.{depth};
 ghost use Rattle.serde_json.specs.View.{view};
 ghost use Rattle.schema_drafts.specs.KeywordViews.{draft_of};
-ghost use Rattle.standard_resolver.specs.DocumentResources.{goes_into, visited_below, walked};
+ghost use Rattle.standard_resolver.specs.DocumentResources.{goes_into, walked};
 ghost use Rattle.standard_resolver.specs.ResourceSpeaking.{speaking, speaks, kept};
 ghost use Rattle.standard_resolver.specs.DocumentViews.{visited_of, path_over};
-ghost use Rattle.schema_traits.specs.Showing.{Yields, Shows};
+ghost use Rattle.schema_traits.specs.Showing.{Yields};
 ghost use Rattle.standard_resolver.specs.DocumentShowing.{Appends};
+ghost use Rattle.standard_resolver.specs.WalkWords.{AddsSpeaking, visited_over, ListsVisited};
 
 use schema_drafts::Draft;
 use schema_reports::OutOfMemory;
@@ -89,9 +89,8 @@ fn keep<'a>(
     schema: &'a Value,
     visited: &mut Vec<Visited<'a>>,
 ) -> Result<(), OutOfMemory>
-    ensures kept { IfOk result (λ _. Appends visited_of visited.old.items visited.new.items
-        (kept aim.rule aim.everywhere
-        (record { path = path_over path.now way.now; base = base.now; draft = draft_of draft; schema = view schema.now }))) }
+    ensures kept { OnOk result (Appends visited_of visited.old.items visited.new.items (kept aim.rule aim.everywhere (visited_over
+        path.now way.now base.now draft schema.now))) }
 {
     if speaks(aim.rule, aim.everywhere, draft, schema) {
         visited.push(Visited {
@@ -117,11 +116,9 @@ fn visit_below<'a>(
     schema: &'a Value,
     visited: &mut Vec<Visited<'a>>,
 ) -> Result<(), OutOfMemory>
-    ensures way { IfOk result (λ _. way.new.items ≡ way.old.items) }
-    ensures visited { IfOk result (λ _. (n : ℕ) → depth (view schema.now) < n →
-        Appends visited_of visited.old.items visited.new.items (filter (speaking aim.rule aim.everywhere)
-        (visited_below aim.rule aim.everywhere n (path_over path.now way.old.items) base.now (draft_of draft)
-        (view schema.now)))) }
+    ensures way { OnOk result (way.new.items ≡ way.old.items) }
+    ensures visited { OnOk result (AddsSpeaking aim.rule aim.everywhere (path_over path.now way.old.items) base.now draft schema.now
+        visited.old.items visited.new.items) }
 {
     for found in &subschemas_found(alloc, aim.rule, draft, schema)? {
         let below = found.schema;
@@ -160,8 +157,8 @@ pub fn walked<'a>(
     draft: Draft,
     schema: &'a Value,
 ) -> Result<Vec<Visited<'a>>, OutOfMemory>
-    ensures walked { Shows (λ v. map visited_of v.items) result
-        (filter (speaking rule everywhere) (walked rule everywhere path.now base.now (draft_of draft) (view schema.now))) }
+    ensures walked { ListsVisited result (filter (speaking rule everywhere) (walked rule everywhere path.now base.now (draft_of draft)
+        (view schema.now))) }
 {
     let mut visited = Vec::new(alloc);
     let mut way = Vec::new(alloc);
