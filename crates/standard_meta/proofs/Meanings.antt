@@ -33,15 +33,15 @@ module _ {State S C Maker Run K : Type 0} (resolvers : ResolverMembers HeldDocum
     same_parts refuses = ap (λ u. parts (record { unreadable = u })) refuses
 
     pub compiled_by : {E : Type 0} (x : Result (Program C Kept) E) → table.unreadable ≡ unreadable.Refused → options ≡ unchecked
-        → {checks : MetaChecks} → IfOk x (λ p. IsBuilt (parts table) checks options schema options.nested p)
+        → (checks : MetaChecks) → IfOk x (λ p. IsBuilt (parts table) checks options schema options.nested p)
         → IfOk x (λ p. IsCompiledOf resolvers tables keywords r m schema p)
-    compiled_by (Ok p) refuses off built = record {
+    compiled_by (Ok p) refuses off checks built = record {
       means = subst (λ o. MeansPlainly (handed_by resolvers tables keywords r m) o schema p) off
           (subst (λ h. MeansPlainly h options schema p) (same_parts refuses) built.means);
       program = subst (λ o. IsCompiledFrom (handed_by resolvers tables keywords r m) o schema o.nested p) off
           (subst (λ h. IsCompiledFrom h options schema options.nested p) (same_parts refuses) built.program);
     }
-    compiled_by (Err e) refuses off built = tt
+    compiled_by (Err e) refuses off checks built = tt
 
 -- the document with an index is among the documents
 among_documents : (documents : List GivenDocument) (k : ℕ) (d : GivenDocument) → slice_get documents k ≡ Some d → Contains documents d

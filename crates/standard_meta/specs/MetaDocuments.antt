@@ -1,6 +1,8 @@
 -- The meta-schemas as documents, each under its URI: those of the drafts, oldest first, then those
 -- of the vocabularies. (Core 2020-12, 8.1.1 and 8.1.2)
-use Rattle.std.specs.Prelude.{List, [], map, ℕ, ◌++◌, ◌∷◌}
+use Rattle.std.specs.Prelude.{List, OnOk, Result, [], map, ℕ, ◌++◌, ◌∷◌, ◌≡◌}
+use Rattle.std.specs.declared.alloc.Global.{Global}
+use Rattle.std.specs.declared.vec.Vec.{Vec}
 use Rattle.theory_definitions.specs.Drafts.{Draft, draft_2019_09, draft_2020_12, draft_4, draft_6, draft_7, draft_unknown}
 use Rattle.theory_definitions.specs.Instance.{Text}
 use Rattle.standard_resolver.specs.ResolverDocuments.{GivenDocument}
@@ -32,3 +34,7 @@ place_of draft_7 = 2
 place_of draft_2019_09 = 3
 place_of draft_2020_12 = 4
 place_of draft_unknown = 4
+
+-- if the result is `Ok`, documents under these URIs were added
+abbrev pub AddsUris : {A E : Type 0} → Result A E → Vec MetaDocument Global → Vec MetaDocument Global → List Text → Type 0
+AddsUris result old new added = OnOk result (uris_of (map given_of new.items) ≡ uris_of (map given_of old.items) ++ added)

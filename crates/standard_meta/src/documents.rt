@@ -4,7 +4,7 @@ ghost use Rattle.serde_json.specs.Read.{read as read_text};
 ghost use Rattle.serde_json.specs.View.{view};
 ghost use Rattle.schema_drafts.specs.KeywordViews.{draft_of};
 ghost use Rattle.meta_schemas.specs.MetaUris.{uri_of, vocabulary_uris};
-ghost use Rattle.standard_meta.specs.MetaDocuments.{draft_uris, given_of, place_of, uris_of};
+ghost use Rattle.standard_meta.specs.MetaDocuments.{draft_uris, given_of, place_of, uris_of, AddsUris};
 
 use crate::error::MetaError;
 use meta_schemas::{MetaSchema, meta_schema, vocabulary_meta_schemas};
@@ -54,8 +54,7 @@ fn read(alloc: Global, schema: MetaSchema) -> Result<MetaDocument, MetaError>
 }
 
 fn add_drafts(alloc: Global, documents: &mut Vec<MetaDocument>) -> Result<(), MetaError>
-    ensures added { IfOk result (λ _. uris_of (map given_of documents.new.items)
-        ≡ uris_of (map given_of documents.old.items) ++ draft_uris) }
+    ensures added { AddsUris result documents.old documents.new draft_uris }
 {
     for draft in [
         Draft::Draft4,
@@ -70,8 +69,7 @@ fn add_drafts(alloc: Global, documents: &mut Vec<MetaDocument>) -> Result<(), Me
 }
 
 fn add_vocabularies(alloc: Global, documents: &mut Vec<MetaDocument>) -> Result<(), MetaError>
-    ensures added { IfOk result (λ _. uris_of (map given_of documents.new.items)
-        ≡ uris_of (map given_of documents.old.items) ++ vocabulary_uris) }
+    ensures added { AddsUris result documents.old documents.new vocabulary_uris }
 {
     for schema in vocabulary_meta_schemas() {
         documents.push(read(alloc, schema)?)?;

@@ -71,8 +71,8 @@ fn validator_of<'p>(
 ) -> Result<Validator<StandardKeyword, RegexMatcher<'p>>, BuildError>
     ensures finishes { IfOk result (λ v. FinishesEach (regex_matcher matcher.now.unreadable)
         → FinishesEach (regex_matcher v.matcher.unreadable)) }
-    ensures compiled { IfOk result (λ v. IsCompiledOf ⟦<DocumentResolver<'p> as Resolver>⟧ ⟦<StandardTable as KeywordTable<StandardKeyword>>⟧
-        ⟦<StandardKeyword as Validate>⟧ resolver.now matcher.now (view root.now.value) v) }
+    ensures compiled { IfOk result (IsCompiledOf ⟦<DocumentResolver<'p> as Resolver>⟧ ⟦<StandardTable as KeywordTable<StandardKeyword>>⟧
+        ⟦<StandardKeyword as Validate>⟧ resolver.now matcher.now (view root.now.value)) }
 {
     let options = ValidationOptions::new(alloc).should_validate_schema(false);
     let table = StandardTable::new();

@@ -11,4 +11,4 @@ returns-clause-finishes c = if_ok_mono c.build.result _ _ (λ v built finishes p
 pub returns-clause-compiled : goal.returns-clause-compiled
 returns-clause-compiled c = compiled_by _ _ _ _ _ c.new-table.result _ _ c.build.result c.new-table.ensures.refuses
     (c.should_validate_schema-options.ensures.checks ∙ ap (λ (o : Options). record o { checks = false }) c.new.ensures.defaults)
-    c.build.ensures.built
+    _ c.build.ensures.built
