@@ -1,7 +1,7 @@
 -- What a validator is built from: a schema, the URI that it is found under, the draft of schemas
 -- that do not name theirs (both optional), and the documents that its references may lead to, each
 -- under its URI. (Core 2020-12, 8.2 and 9.1)
-use Rattle.std.specs.Prelude.{List, None, Option, Some, [], codes, map, unwrap_or, ◌∷◌, ◌≡◌}
+use Rattle.std.specs.Prelude.{List, None, Option, Some, [], codes, map, unwrap_or, ◌++◌, ◌∷◌, ◌≡◌}
 use Rattle.serde_json.specs.Data.{Data}
 use Rattle.serde_json.specs.Find.{get}
 use Rattle.serde_json.specs.View.{view}
@@ -49,3 +49,7 @@ pub record IsResolverOf (s : SchemaSources) (r : HeldDocuments) : Type 0 where
   pub default_draft : r.default_draft ≡ default_draft_of s
   pub drafts : HasDrafts [] r.vocabularies
   pub custom : HasCustom [] r.vocabularies
+
+-- the sources with more documents
+abbrev pub with_documents : SchemaSources → List GivenDocument → SchemaSources
+with_documents s more = record s { documents = s.documents ++ more }

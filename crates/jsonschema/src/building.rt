@@ -85,8 +85,8 @@ fn build_by<'p, V: MetaValidators>(
     metas: &V,
     options: &ValidationOptions,
 ) -> Result<StandardValidator<'p>, BuildError>
-    ensures built { IfOk result (λ p. IsBuilt ⟦<DocumentResolver<'p> as Resolver>⟧ ⟦<StandardTable as KeywordTable<StandardKeyword>>⟧
-        ⟦<StandardKeyword as Validate>⟧ resolver.now patterns.now (V.checked metas.now) options.now (view schema.now) p) }
+    ensures built { IfOk result (IsBuilt ⟦<DocumentResolver<'p> as Resolver>⟧ ⟦<StandardTable as KeywordTable<StandardKeyword>>⟧
+        ⟦<StandardKeyword as Validate>⟧ resolver.now patterns.now (V.checked metas.now) options.now (view schema.now)) }
     ensures refused { IfErr result (λ e. (e ≡ OutOfMemory) ⊎ IsRefused ⟦<DocumentResolver<'p> as Resolver>⟧
         ⟦<StandardTable as KeywordTable<StandardKeyword>>⟧ ⟦<StandardKeyword as Validate>⟧ resolver.now patterns.now (V.checked metas.now)
         options.now (view schema.now) e) }
@@ -112,8 +112,8 @@ pub fn build<'p, V: MetaValidators>(
     metas: &V,
     options: ValidationOptions,
 ) -> Result<StandardValidator<'p>, BuildError>
-    ensures built { IfOk result (λ p. IsBuiltOf ⟦<DocumentResolver<'p> as Resolver>⟧ ⟦<StandardTable as KeywordTable<StandardKeyword>>⟧
-        ⟦<StandardKeyword as Validate>⟧ (V.checked metas.now) options sources.entry patterns.now p) }
+    ensures built { IfOk result (IsBuiltOf ⟦<DocumentResolver<'p> as Resolver>⟧ ⟦<StandardTable as KeywordTable<StandardKeyword>>⟧
+        ⟦<StandardKeyword as Validate>⟧ (V.checked metas.now) options sources.entry patterns.now) }
     ensures refused { IfErr result (λ e. (e ≡ OutOfMemory) ⊎ IsRefusedOf ⟦<DocumentResolver<'p> as Resolver>⟧
         ⟦<StandardTable as KeywordTable<StandardKeyword>>⟧ ⟦<StandardKeyword as Validate>⟧ (V.checked metas.now)
         options sources.entry patterns.now e) }

@@ -1,11 +1,11 @@
 //! The schema and the documents that a validator is built from.
-ghost use Rattle.std.specs.Prelude.{◌≡◌, ◌++◌, ◌∷◌, [], IfErr, IfOk, None, Some, map};
+ghost use Rattle.std.specs.Prelude.{◌≡◌, ◌++◌, ◌∷◌, [], IfErr, IfOk, None, Some, map, OnOk};
 ghost use Rattle.schema_drafts.specs.KeywordViews.{draft_of};
 ghost use Rattle.standard_resolver.specs.DocumentViews.{given_of};
 ghost use Rattle.regex_matcher.specs.SchemaPatterns.{IsAdded, IsFaultOf, patterns_of};
 ghost use Rattle.serde_json.specs.View.{view};
 ghost use Rattle.schema_traits.specs.Showing.{Yields};
-ghost use Rattle.jsonschema.specs.Sources.{values_of};
+ghost use Rattle.jsonschema.specs.Sources.{values_of, with_documents};
 
 use regex_matcher::{PatternError, Patterns};
 use schema_engine::{Draft, OutOfMemory};
@@ -51,7 +51,7 @@ fn add_meta_schemas<'a>(
     metas: &'a MetaDocuments,
     documents: &mut Vec<Document<'a>>,
 ) -> Result<(), OutOfMemory>
-    ensures added { IfOk result (λ _. map given_of documents.new.items ≡ map given_of documents.old.items ++ metas.now.documents) }
+    ensures added { OnOk result (map given_of documents.new.items ≡ map given_of documents.old.items ++ metas.now.documents) }
 {
     for meta in metas.documents() {
         documents.push(Document {
@@ -110,8 +110,7 @@ impl<'a> Sources<'a> {
         uri: &str,
         document: &'a Value,
     ) -> Result<Sources<'a>, OutOfMemory>
-        ensures document { Yields result
-            (record self.entry { documents = self.entry.documents ++ record { uri = uri.now; value = document.now } ∷ [] }) }
+        ensures document { Yields result (with_documents self.entry (record { uri = uri.now; value = document.now } ∷ [])) }
     {
         let mut sources = self;
         sources.documents.push(Document {
@@ -134,7 +133,7 @@ impl<'a> Sources<'a> {
         alloc: Global,
         metas: &'a MetaDocuments,
     ) -> Result<Sources<'a>, OutOfMemory>
-        ensures documents { Yields result (record self.entry { documents = self.entry.documents ++ metas.now.documents }) }
+        ensures documents { Yields result (with_documents self.entry metas.now.documents) }
     {
         let mut sources = self;
         add_meta_schemas(alloc, metas, &mut sources.documents)?;
