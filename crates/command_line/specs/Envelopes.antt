@@ -3,6 +3,7 @@ use Rattle.std.specs.Prelude.{None, Option, Some, [], codes, decimal, ◌++◌, 
 use Rattle.json.specs.Print.{quoted}
 use Rattle.theory_definitions.specs.Instance.{Text}
 use Rattle.command_line.specs.Choices.{name_of}
+use Rattle.command_line.specs.declared.envelopes.Subject.{Subject}
 use Rattle.command_line.specs.declared.options.Output.{Output}
 
 -- the member for a line, by its number
@@ -21,3 +22,14 @@ front_text output schema instance line = codes "{\"output\":" ++ quoted (name_of
 -- the object with an answer; the answer is JSON
 abbrev pub answered_text : Output → Text → Text → Option ℕ → Text → Text
 answered_text output schema instance line payload = front_text output schema instance line ++ codes ",\"payload\":" ++ payload ++ codes "}" ++ 10 ∷ []
+
+-- ---- the same for the subject that the code is given
+
+abbrev pub members_for : Subject → Text
+members_for s = subject_text s.schema.now s.instance.now s.line
+
+abbrev pub front_for : Output → Subject → Text
+front_for output s = front_text output s.schema.now s.instance.now s.line
+
+abbrev pub answered_for : Output → Subject → Text → Text
+answered_for output s payload = answered_text output s.schema.now s.instance.now s.line payload

@@ -1,8 +1,9 @@
 //! The output for programs: a JSON object on a line for each instance or line.
-ghost use Rattle.std.specs.Prelude.{◌≡◌, ◌++◌, IfOk, string_bytes};
+ghost use Rattle.std.specs.Prelude.{◌≡◌, string_bytes};
 ghost use Rattle.json.specs.Print.{quoted};
-ghost use Rattle.command_line.specs.Envelopes.{answered_text, front_text, line_text, subject_text};
+ghost use Rattle.command_line.specs.Envelopes.{line_text, answered_for, front_for, members_for};
 ghost use Rattle.command_line.specs.Verdicts.{flag_text};
+ghost use Rattle.schema_reports.specs.Showing.{Shows, Adds};
 
 use crate::options::Output;
 use crate::reports::line_fault;
@@ -22,14 +23,14 @@ pub struct Subject<'s> {
 }
 
 fn quoted_text(alloc: Global, part: &str) -> Result<String, OutOfMemory>
-    ensures text { IfOk result (λ s. string_bytes s ≡ quoted part.now) }
+    ensures text { Shows string_bytes result (quoted part.now) }
 {
     let value = Value::String(String::from_str(alloc, part)?);
     value.to_string(alloc)
 }
 
 fn push_quoted(text: &mut String, alloc: Global, part: &str) -> Result<(), OutOfMemory>
-    ensures quoted { IfOk result (λ _. string_bytes text.new ≡ string_bytes text.old ++ quoted part.now) }
+    ensures quoted { Adds result text.old text.new (quoted part.now) }
 {
     let shown = quoted_text(alloc, part)?;
     text.push_str(shown.as_str())
@@ -37,7 +38,7 @@ fn push_quoted(text: &mut String, alloc: Global, part: &str) -> Result<(), OutOf
 
 /// Adds the member for a line, if there is one.
 fn push_line(text: &mut String, line: Option<u64>) -> Result<(), OutOfMemory>
-    ensures line { IfOk result (λ _. string_bytes text.new ≡ string_bytes text.old ++ line_text line) }
+    ensures line { Adds result text.old text.new (line_text line) }
 {
     match line {
         Some(number) => write!(text, ",\"line\":{number}"),
@@ -47,8 +48,7 @@ fn push_line(text: &mut String, line: Option<u64>) -> Result<(), OutOfMemory>
 
 /// Adds the members for the schema, the instance and its line.
 fn push_subject(text: &mut String, alloc: Global, subject: Subject<'_>) -> Result<(), OutOfMemory>
-    ensures subject { IfOk result (λ _. string_bytes text.new ≡ string_bytes text.old
-        ++ subject_text subject.entry.schema.now subject.entry.instance.now subject.entry.line) }
+    ensures subject { Adds result text.old text.new (members_for subject.entry) }
 {
     text.push_str(",\"schema\":")?;
     push_quoted(text, alloc, subject.schema)?;
@@ -65,8 +65,7 @@ fn envelope_front(
     output: Output,
     subject: Subject<'_>,
 ) -> Result<String, OutOfMemory>
-    ensures front { IfOk result (λ s. string_bytes s
-        ≡ front_text output subject.entry.schema.now subject.entry.instance.now subject.entry.line) }
+    ensures front { Shows string_bytes result (front_for output subject.entry) }
 {
     let mut text = String::from_str(alloc, "{\"output\":")?;
     push_quoted(&mut text, alloc, output.name())?;
@@ -87,8 +86,7 @@ pub fn answered(
     subject: Subject<'_>,
     payload: &str,
 ) -> Result<String, OutOfMemory>
-    ensures text { IfOk result (λ s. string_bytes s
-        ≡ answered_text output subject.entry.schema.now subject.entry.instance.now subject.entry.line payload.now) }
+    ensures text { Shows string_bytes result (answered_for output subject.entry payload.now) }
 {
     let mut text = envelope_front(alloc, output, subject)?;
     text.push_str(",\"payload\":")?;

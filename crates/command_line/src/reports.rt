@@ -1,6 +1,7 @@
 //! The output for people: the text printed for instances and lines.
-ghost use Rattle.std.specs.Prelude.{◌≡◌, ◌++◌, IfOk, string_bytes};
+ghost use Rattle.std.specs.Prelude.{◌≡◌};
 ghost use Rattle.command_line.specs.Verdicts.{verdict_text};
+ghost use Rattle.schema_reports.specs.Showing.{Adds};
 
 use schema_reports::{ErrorIterator, OutOfMemory, ValidationError};
 use std::alloc::Global;
@@ -25,7 +26,7 @@ fn verdict_word(paint: Paint, accepted: bool) -> &'static str
 }
 
 fn push_verdict(text: &mut String, paint: Paint, accepted: bool) -> Result<(), OutOfMemory>
-    ensures verdict { IfOk result (λ _. string_bytes text.new ≡ string_bytes text.old ++ verdict_text paint accepted) }
+    ensures verdict { Adds result text.old text.new (verdict_text paint accepted) }
 {
     text.push_str(verdict_word(paint, accepted))
 }
