@@ -10,3 +10,5 @@ pub mod FusedScripts
 pub mod FusedMakers
 pub mod FusedMakerLaws
 pub mod Borrowing
+pub mod ArrayWords
+pub mod CheckWords

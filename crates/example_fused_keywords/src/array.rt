@@ -1,19 +1,16 @@
 //! `minItems`, and an `items` that absorbs it and `type`.
 //!
 //! `minItems` alone and the `items` that absorbs it have one form, and so one proof.
-ghost use Rattle.std.specs.Prelude.{◌≡◌, ◌+◌, ◌^◌, ◌<◌, Bool, IfOk, IfSome, map, option_map, true};
+ghost use Rattle.std.specs.Prelude.{◌≡◌, ◌+◌, ◌^◌, ◌<◌, IfOk, IfSome, option_map, OnOk};
 ghost use Rattle.schema_reports.specs.InstanceViews.{subject_of};
-ghost use Rattle.theory_definitions.specs.Keywords.{for_first};
-ghost use Rattle.theory_definitions.specs.Laws.{first_fault};
 ghost use Rattle.schema_traits.specs.FaultViews.{faults_in};
-ghost use Rattle.schema_traits.specs.KeywordViews.{answer_of, fault_of, reply_of, turn_of, with_errors, with_gives};
+ghost use Rattle.schema_traits.specs.KeywordViews.{turn_of};
 ghost use Rattle.keyword_authoring.specs.Items.{first_at_item};
-ghost use Rattle.keyword_authoring.specs.Ways.{asked, at_first, passes_on, way_turn};
-ghost use Rattle.example_fused_keywords.specs.Openings.{asked_count, before_of, checks_hold, errors, first_gives, opening, run_questions};
-ghost use Rattle.keyword_authoring.specs.AnswerWords.{BecomesTold, IfTold};
-ghost use Rattle.keyword_authoring.specs.TurnWords.{Steps};
+ghost use Rattle.keyword_authoring.specs.Ways.{asked};
+ghost use Rattle.example_fused_keywords.specs.Openings.{asked_count, before_of, checks_hold};
 ghost use Rattle.example_fused_keywords.specs.Borrowing.{BorrowsAll, KeepsAll};
 ghost use Rattle.keyword_authoring.specs.Borrowing.{Borrows, Retains};
+ghost use Rattle.example_fused_keywords.specs.ArrayWords.{AreErrors, GivesFirst, HasFirstOf, IsOpening, Opens, StepsArray, TurnsArray};
 
 use crate::checks::Check;
 use keyword_authoring::{Progress, Stage, item_count, next_number};
@@ -45,8 +42,7 @@ fn ask_at_item<'s>(number: Option<usize>, mode: Mode) -> Step<'s>
 
 /// Returns an answer with the first of these errors, if there is one.
 fn first_of<'i>(alloc: Global, faults: Vec<Fault<'i>>) -> Result<Answer<'i>, OutOfMemory>
-    ensures first { IfOk result (λ a. (texts : Bool) → answer_of texts a
-        ≡ with_errors for_first (first_fault (map (fault_of texts) faults.entry.items))) }
+    ensures first { IfOk result (HasFirstOf faults.entry.items) }
     ensures borrows { IfOk result (λ a. KeepsAll faults.entry.items (faults_in a)) }
 {
     match faults.into_iter().next() {
@@ -56,7 +52,7 @@ fn first_of<'i>(alloc: Global, faults: Vec<Fault<'i>>) -> Result<Answer<'i>, Out
 }
 
 impl ArrayKeyword {
-    /// Returns the number of items before those at which the child is asked.
+    /// Returns the number of items that come before those of the child.
     fn before(self) -> usize
         ensures before { result ≡ before_of self }
     {
@@ -117,8 +113,7 @@ impl ArrayKeyword {
         alloc: Global,
         instance: Instance<'i>,
     ) -> Result<Vec<Fault<'i>>, OutOfMemory>
-        ensures errors { IfOk result (λ faults. IfTold true instance.entry (λ texts s. map (fault_of texts) faults.items ≡ errors texts
-            self s)) }
+        ensures errors { IfOk result (λ faults. AreErrors self instance.entry faults.items) }
         ensures borrows { IfOk result (λ faults. BorrowsAll faults.items) }
     {
         let mut faults = Vec::new(alloc);
@@ -141,8 +136,7 @@ impl ArrayKeyword {
         alloc: Global,
         instance: Instance<'i>,
     ) -> Result<Answer<'i>, OutOfMemory>
-        ensures gives { IfOk result (λ a. IfTold true instance.entry (λ texts s. answer_of texts a ≡ with_gives
-            (first_gives texts self s))) }
+        ensures gives { IfOk result (GivesFirst self instance.entry) }
         ensures borrows { IfOk result (λ a. BorrowsAll (faults_in a)) }
     {
         let mut absorbed = Vec::new(alloc);
@@ -169,7 +163,7 @@ impl ArrayKeyword {
         mode: Mode,
         instance: Instance<'i>,
     ) -> Result<Answer<'i>, OutOfMemory>
-        ensures opened { IfOk result (λ a. IfTold true instance.entry (λ texts s. answer_of texts a ≡ opening texts mode self s)) }
+        ensures opened { IfOk result (IsOpening mode self instance.entry) }
         ensures borrows { IfOk result (λ a. BorrowsAll (faults_in a)) }
     {
         match mode {
@@ -191,8 +185,7 @@ impl ArrayKeyword {
         instance: Instance<'i>,
         answer: &mut Answer<'i>,
     ) -> Result<(), OutOfMemory>
-        ensures opened { IfOk result (λ _. BecomesTold true instance.entry (λ texts s a. at_first run.now.stage
-            (opening texts run.now.mode self s) a) answer.old answer.new) }
+        ensures opened { OnOk result (Opens run.now self instance.entry answer.old answer.new) }
         ensures borrows { Retains answer.old answer.new result }
     {
         match run.stage {
@@ -206,8 +199,8 @@ impl ArrayKeyword {
 
     /// Takes a turn.
     ///
-    /// The first turn puts what the checks find into the answer. After that the child is asked at
-    /// one item after the other.
+    /// The first turn puts what the checks find into the answer. Later turns evaluate the
+    /// child at one item after the other.
     pub fn turn<'s, 'i>(
         self,
         alloc: Global,
@@ -216,11 +209,8 @@ impl ArrayKeyword {
         reply: Reply<'i>,
         answer: &mut Answer<'i>,
     ) -> Result<Step<'s>, OutOfMemory>
-        ensures turns { IfOk result (λ _. IfTold true instance.entry (λ texts s. way_turn (passes_on (run_questions run.old.mode self s))
-            (run.old, at_first run.old.stage (opening texts run.old.mode self s) (answer_of texts answer.old)) (reply_of texts reply.entry)
-            ≡ (run.new, answer_of texts answer.new))) }
-        ensures steps { Steps (passes_on (run_questions run.old.mode self (subject_of instance.entry))) run.old answer.old reply.entry
-            result }
+        ensures turns { OnOk result (TurnsArray self instance.entry run.old answer.old reply.entry run.new answer.new) }
+        ensures steps { StepsArray self instance.entry run.old answer.old reply.entry result }
         ensures borrows { Borrows reply.entry answer.old answer.new result }
     {
         let mode = run.mode;

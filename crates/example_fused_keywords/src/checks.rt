@@ -1,16 +1,11 @@
 //! Checks of an array apart from its items.
-ghost use Rattle.std.specs.Prelude.{◌≡◌, ◌++◌, Bool, IfOk, decimal, map, string_bytes, true};
-ghost use Rattle.serde_json.specs.Data.{Data};
-ghost use Rattle.schema_reports.specs.EvaluationResults.{gives_of, named_of};
+ghost use Rattle.std.specs.Prelude.{◌≡◌, IfOk, decimal, OnOk};
 ghost use Rattle.schema_reports.specs.InstanceViews.{subject_of};
-ghost use Rattle.schema_reports.specs.ReportViews.{spoken};
-ghost use Rattle.schema_traits.specs.FaultViews.{PassesBorrowed};
-ghost use Rattle.schema_traits.specs.KeywordViews.{fault_of};
-ghost use Rattle.example_fused_keywords.specs.Checks.{absorbed_unit, counted_items, error_at, error_text, errors_at, holds, name, own_unit};
-ghost use Rattle.example_fused_keywords.specs.Checks.{spot_name};
-ghost use Rattle.keyword_authoring.specs.AnswerWords.{IfTold};
+ghost use Rattle.example_fused_keywords.specs.Checks.{counted_items, error_text, holds, name};
 ghost use Rattle.keyword_authoring.specs.TextWords.{Adds, ShowsText};
 ghost use Rattle.example_fused_keywords.specs.Borrowing.{KeepsAll};
+ghost use Rattle.keyword_authoring.specs.Borrowing.{AlwaysBorrows};
+ghost use Rattle.example_fused_keywords.specs.CheckWords.{IsAbsorbedUnit, IsErrorAt, IsOwnUnit, PushesError};
 
 use keyword_authoring::{is_list, item_count};
 use schema_reports::{AbsorbedResult, ErrorDescription, EvaluationResult, Instance, OutOfMemory};
@@ -22,7 +17,7 @@ use std::alloc::Global;
 pub enum Check {
     /// The instance is an array: `type` with the value "array".
     IsArray,
-    /// The instance is not an array, or has at least this many items: `minItems`.
+    /// The instance has at least this many items, or is no array: `minItems`.
     HasLeast(u64),
 }
 
@@ -34,7 +29,7 @@ fn counted_items(limit: u64) -> &'static str
 }
 
 fn push_decimal(text: &mut String, number: u64) -> Result<(), OutOfMemory>
-    ensures decimal { IfOk result (λ _. Adds (decimal number) text.old text.new) }
+    ensures decimal { OnOk result (Adds (decimal number) text.old text.new) }
 {
     write!(text, "{number}")
 }
@@ -46,9 +41,8 @@ fn own_fault<'i>(
     name: &str,
     text: String,
 ) -> Result<Fault<'i>, OutOfMemory>
-    ensures own { IfOk result (λ fault. (texts : Bool) → fault_of texts fault
-        ≡ error_at (spot_name absorbed name.now) name.now (spoken texts (string_bytes text))) }
-    ensures borrows { IfOk result (λ fault. (root : Data) → PassesBorrowed root fault) }
+    ensures own { IfOk result (IsErrorAt absorbed name.now text) }
+    ensures borrows { IfOk result AlwaysBorrows }
 {
     let at = if absorbed {
         Some(String::from_str(alloc, name)?)
@@ -114,9 +108,8 @@ impl Check {
         instance: Instance<'i>,
         faults: &mut Vec<Fault<'i>>,
     ) -> Result<(), OutOfMemory>
-        ensures pushed { IfOk result (λ _. IfTold true instance.entry (λ texts s. map (fault_of texts) faults.new.items ≡ map
-            (fault_of texts) faults.old.items ++ errors_at texts absorbed self s)) }
-        ensures borrows { IfOk result (λ _. KeepsAll faults.old.items faults.new.items) }
+        ensures pushed { OnOk result (PushesError absorbed self instance.entry faults.old.items faults.new.items) }
+        ensures borrows { OnOk result (KeepsAll faults.old.items faults.new.items) }
     {
         if self.holds(instance) {
             return Ok(());
@@ -132,7 +125,7 @@ impl Check {
         alloc: Global,
         instance: Instance<'_>,
     ) -> Result<EvaluationResult, OutOfMemory>
-        ensures unit { IfOk result (λ r. IfTold true instance.entry (λ texts s. gives_of texts r ≡ own_unit texts self s)) }
+        ensures unit { IfOk result (IsOwnUnit self instance.entry) }
     {
         if self.holds(instance) {
             return Ok(EvaluationResult::valid_empty(alloc));
@@ -150,7 +143,7 @@ impl Check {
         alloc: Global,
         instance: Instance<'_>,
     ) -> Result<AbsorbedResult, OutOfMemory>
-        ensures unit { IfOk result (λ r. IfTold true instance.entry (λ texts s. named_of texts r ≡ absorbed_unit texts self s)) }
+        ensures unit { IfOk result (IsAbsorbedUnit self instance.entry) }
     {
         Ok(AbsorbedResult {
             keyword: String::from_str(alloc, self.name())?,

@@ -6,7 +6,7 @@ ghost use Rattle.schema_traits.specs.MakerViews as makers;
 ghost use Rattle.keyword_makers.specs.MakerViews.{made_of, waiting_of, Begins};
 ghost use Rattle.standard_basics.specs.Shapes.{shape_of};
 ghost use Rattle.example_fused_keywords.specs.FusedMakers.{fused_waiting};
-ghost use Rattle.example_fused_keywords.specs.FusedScripts.{fused_limit, is_known, least_in, limit_of};
+ghost use Rattle.example_fused_keywords.specs.FusedScripts.{fused_limit, is_known, least_in, limit_of, fused_script};
 ghost use Rattle.example_fused_keywords.specs.FusedScripts.{made_among, plain_script, says_array, script_by};
 ghost use Rattle.example_fused_keywords.specs.FusedScripts.{waiting_among};
 ghost use Rattle.example_fused_keywords.specs.FusedShape.{of_bench};
@@ -100,7 +100,7 @@ fn least_in(value: &Value) -> Option<u64>
     value.as_u64()
 }
 
-/// Returns the limit of the fused keyword, if the three values allow the fusion.
+/// Returns the limit of the fused keyword, if the three values can be fused.
 fn limit_of(type_value: Option<&Value>, items: Option<&Value>, least: Option<&Value>) -> Option<u64>
     ensures limit { result ≡ limit_of (value_read type_value.entry) (value_read items.entry) (value_read least.entry) }
 {
