@@ -92,6 +92,10 @@ abbrev pub ends_as : Option Text → Option Data → Bool
 ends_as text None = true
 ends_as text (Some end) = ends_by text (as_str end)
 
+-- the text of a refusal ends as a row wants it
+abbrev pub ends_as_wanted : Data → Data → Bool
+ends_as_wanted given want = ends_as (option_and_then as_str (get (codes "text") given)) (get (codes "ends") want)
+
 -- a refusal has the wanted number, place and text, and the wanted end of its text, as far as these
 -- are wanted
 abbrev pub is_refusal : Data → Data → Bool

@@ -1,9 +1,8 @@
 //! Whether an answer is the one that a row wants.
-ghost use Rattle.std.specs.Prelude.{◌≡◌, codes, option_and_then};
-ghost use Rattle.serde_json.specs.Find.{as_str, get};
+ghost use Rattle.std.specs.Prelude.{◌≡◌};
 ghost use Rattle.serde_json.specs.View.{items_view, view};
-ghost use Rattle.test_rows.specs.Wanted.{are_errors, are_these_errors, begins_with, has_columns, is_count, is_error, is_this_count};
-ghost use Rattle.test_rows.specs.Wanted.{are_in, are_names, are_these_names, ends_as, is_as_wanted, is_in, is_refusal};
+ghost use Rattle.test_rows.specs.Wanted.{are_errors, are_these_errors, begins_with, has_columns, is_count, is_error, is_this_count, ends_as_wanted};
+ghost use Rattle.test_rows.specs.Wanted.{are_in, are_names, are_these_names, is_as_wanted, is_in, is_refusal};
 ghost use Rattle.test_rows.specs.Wanted.{is_answer, is_answer_of, is_map_answer, is_wanted};
 
 use crate::call::{Call, MapQuestion, Question};
@@ -163,7 +162,7 @@ fn is_as_wanted(given: &Value, want: &Value, name: &str) -> bool
 
 // Returns whether the text of a refusal ends as the row wants it, if the row says so.
 fn ends_as_wanted(given: &Value, want: &Value) -> bool
-    ensures ends { result ≡ ends_as (option_and_then as_str (get (codes "text") (view given.now))) (get (codes "ends") (view want.now)) }
+    ensures ends { result ≡ ends_as_wanted (view given.now) (view want.now) }
 {
     let Some(end) = want.get("ends") else {
         return true;

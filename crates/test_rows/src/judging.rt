@@ -1,8 +1,9 @@
 //! Whether the answer to a row is the one that the row wants.
-ghost use Rattle.std.specs.Prelude.{◌≡◌, ◌++◌, ◌∷◌, [], IfOk, None, codes, count_by, decimal, false, is_none, length, not, string_bytes};
+ghost use Rattle.std.specs.Prelude.{◌≡◌, IfOk, None, count_by, false, is_none, not, string_bytes, OnOk};
 ghost use Rattle.serde_json.specs.Read.{read as read_text};
 ghost use Rattle.serde_json.specs.View.{view};
 ghost use Rattle.test_rows.specs.Rows.{is_right, is_right_answer};
+ghost use Rattle.test_rows.specs.Tallies.{Counts, summary_text};
 
 use crate::asking::{Answering, Line, RowAnswer, line_in};
 use crate::case::Case;
@@ -68,8 +69,7 @@ fn wrong_in(alloc: Global, line: &Line) -> Result<Wrong, AllocError> {
 impl Tally {
     // Counts the result of a line. Returns the fault, if there is one.
     fn count(&mut self, alloc: Global, line: &Line) -> Result<Option<Wrong>, AllocError>
-        ensures counted { IfOk result (λ wrong.
-            self.new.verdicts.items ≡ self.old.verdicts.items ++ (is_right_answer line.now.answer ∷ [])) }
+        ensures counted { OnOk result (Counts (is_right_answer line.now.answer) self.old self.new) }
         ensures wrong { IfOk result (λ wrong. is_none wrong ≡ is_right_answer line.now.answer) }
     {
         let right = is_right_answer(&line.answer);
@@ -93,7 +93,7 @@ impl Tally {
         cases: &A,
         text: &str,
     ) -> Result<Option<Wrong>, AllocError>
-        ensures counted { IfOk result (λ wrong. self.new.verdicts.items ≡ self.old.verdicts.items ++ (is_none wrong ∷ [])) }
+        ensures counted { IfOk result (λ wrong. Counts (is_none wrong) self.old self.new) }
         ensures unread { IfOk result (λ wrong. read_text text.now ≡ None → is_none wrong ≡ false) }
     {
         let line = line_in(alloc, cases, &mut self.names, text)?;
@@ -114,8 +114,7 @@ pub fn count_wrong(verdicts: &[bool]) -> usize
 ///
 /// Out of memory.
 pub fn summary(alloc: Global, verdicts: &[bool]) -> Result<String, AllocError>
-    ensures text { IfOk result (λ text. string_bytes text
-        ≡ decimal (length verdicts.now) ++ (codes " rows, " ++ (decimal (count_by not verdicts.now) ++ codes " wrong"))) }
+    ensures text { IfOk result (λ text. string_bytes text ≡ summary_text verdicts.now) }
 {
     let rows = verdicts.len();
     let wrong = count_wrong(verdicts);
