@@ -10,3 +10,5 @@ pub mod Items
 pub mod ItemsWords
 pub mod ItemsTable
 pub mod PrintingTable
+pub mod RefusalWords
+pub mod ItemsTurns

@@ -17,6 +17,8 @@ use Rattle.theory_definitions.specs.Reports.{OwnedError, told_error}
 use Rattle.schema_traits.specs.MakerViews.{IsMade, MakesRightly}
 use Rattle.test_laws.specs.declared.printing_table.PrintingMaker.{PrintingMaker}
 use Rattle.test_laws.specs.declared.printing_table.PrintingMaker.TheVariants as maker
+use Rattle.schema_reports.specs.ReportViews.{owned_error_of}
+use Rattle.schema_reports.specs.declared.reports.OwnedError.{OwnedError as OwnedErrorOfCall}
 
 -- the error shows the value, and names the member
 abbrev pub printed_error : Text → Data → OwnedError
@@ -73,3 +75,13 @@ module _ {K : Type 0} (absorbed : K → List Text) (is_whole : K → Bool) where
   pub prints_rightly : (own : Bool) (name : Text) (owner : Members) (draft : Draft) (vocabularies : Vocabularies) (formats : Bool)
       → MakesRightly absorbed is_whole owner (printing_script own name owner draft vocabularies formats)
   prints_rightly own name owner draft vocabularies formats = made_rightly owner name (get_member name owner) refl
+
+-- ---- the error as the code makes it
+
+-- apart from its text
+abbrev pub IsPrinted : Text → Data → OwnedErrorOfCall → Type 0
+IsPrinted name d e = told_error false (owned_error_of e) ≡ told_error false (printed_error name d)
+
+-- with its text, if the value contains no fraction
+abbrev pub PrintsValue : Text → Data → OwnedErrorOfCall → Type 0
+PrintsValue name d e = told_error (not (has_float d)) (owned_error_of e) ≡ told_error (not (has_float d)) (printed_error name d)

@@ -2,9 +2,8 @@
 //!
 //! Its run marks each child. It skips the second if that is marked already, since then it is the
 //! same node as the first.
-ghost use Rattle.std.specs.Prelude.{◌≡◌, Bool};
-ghost use Rattle.schema_traits.specs.KeywordViews.{reply_of};
 ghost use Rattle.test_laws.specs.BothOnce.{says_yes};
+ghost use Rattle.keyword_authoring.specs.FaultWords.{IsOfReply};
 
 use crate::refusals::tell;
 use schema_reports::{Instance, OutOfMemory};
@@ -27,7 +26,7 @@ pub enum Stage {
 
 /// Returns whether a reply is the truth value `true`.
 fn says_yes(reply: Reply<'_>) -> bool
-    ensures yes { (texts : Bool) → result ≡ says_yes (reply_of texts reply.entry) }
+    ensures yes { IsOfReply says_yes reply.entry result }
 {
     match reply {
         Reply::Truth(yes) => yes,

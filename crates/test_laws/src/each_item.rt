@@ -2,9 +2,8 @@
 //!
 //! It begins with the last item, and refuses if an item is refused. Its run counts the items that
 //! are left, and stores their number at the beginning.
-ghost use Rattle.std.specs.Prelude.{◌≡◌, Bool};
-ghost use Rattle.schema_traits.specs.KeywordViews.{reply_of};
 ghost use Rattle.test_laws.specs.EachItem.{says_no};
+ghost use Rattle.keyword_authoring.specs.FaultWords.{IsOfReply};
 
 use crate::refusals::tell;
 use keyword_authoring::item_count;
@@ -18,7 +17,7 @@ pub struct EachItem {}
 
 /// Returns whether a reply is a verdict that refuses.
 pub(crate) fn says_no(reply: Reply<'_>) -> bool
-    ensures no { (texts : Bool) → result ≡ says_no (reply_of texts reply.entry) }
+    ensures no { IsOfReply says_no reply.entry result }
 {
     match reply {
         Reply::Truth(yes) => !yes,

@@ -2,14 +2,11 @@
 //!
 //! The value of `x-items` is a schema that each item of an array is validated against. While a run
 //! of `x-items` asks, it marks the number that its maker was given.
-ghost use Rattle.std.specs.Prelude.{◌≡◌, Bool, IfOk, true};
-ghost use Rattle.schema_reports.specs.InstanceViews.{subject_of};
-ghost use Rattle.schema_traits.specs.KeywordViews.{Tells, answer_of, reply_of, turn_of};
+ghost use Rattle.std.specs.Prelude.{◌≡◌, IfOk, OnOk};
 ghost use Rattle.test_laws.specs.Items.{marks};
-ghost use Rattle.test_laws.specs.ItemsWords.{items_words, ways};
-ghost use Rattle.test_laws.specs.Marking.{shown, worked};
-ghost use Rattle.keyword_authoring.specs.OwnWays.{own_words};
+ghost use Rattle.test_laws.specs.ItemsWords.{items_words};
 ghost use Rattle.keyword_authoring.specs.Borrowing.{Borrows};
+ghost use Rattle.test_laws.specs.ItemsTurns.{StepsItems, TurnsItems};
 
 use crate::marking::{Stage, after_step, first_stage};
 use keyword_authoring::{Asks, Plan, Planned, PlannedKeyword, Progress, is_list};
@@ -107,12 +104,8 @@ impl ItemsKeyword {
         reply: Reply<'i>,
         answer: &mut Answer<'i>,
     ) -> Result<Step<'s>, OutOfMemory>
-        ensures turns { IfOk result (λ _. (texts : Bool) → Tells texts true (subject_of instance.entry)
-            → worked marks (own_words ways) texts self.now.planned.keyword (subject_of instance.entry)
-            (run.old.1, answer_of texts answer.old) (reply_of texts reply.entry) ≡ (run.new, answer_of texts answer.new)) }
-        ensures steps { IfOk result (λ step. (texts : Bool) → Tells texts true (subject_of instance.entry)
-            → shown (marks self.now.planned.keyword) ((own_words ways texts).step self.now.planned.keyword
-            (subject_of instance.entry) (run.old.1, answer_of texts answer.old) (reply_of texts reply.entry)) ≡ turn_of step) }
+        ensures turns { OnOk result (TurnsItems self.now.planned.keyword instance.entry run.old.1 answer.old reply.entry run.new answer.new) }
+        ensures steps { IfOk result (StepsItems self.now.planned.keyword instance.entry run.old.1 answer.old reply.entry) }
         ensures borrows { Borrows reply.entry answer.old answer.new result }
     {
         let step = self

@@ -2,13 +2,11 @@
 //!
 //! That text shows the digits of fractions. The table makes no keyword, so it is a table for every
 //! keyword type.
-ghost use Rattle.std.specs.Prelude.{◌≡◌, IfOk, false, not, string_bytes};
+ghost use Rattle.std.specs.Prelude.{◌≡◌, IfOk, false, string_bytes};
 ghost use Rattle.serde_json.specs.Find.{get_member};
 ghost use Rattle.serde_json.specs.View.{view};
 ghost use Rattle.serde_json.specs.Written.{compact_text, has_float};
-ghost use Rattle.theory_definitions.specs.Reports.{told_error};
-ghost use Rattle.schema_reports.specs.ReportViews.{owned_error_of};
-ghost use Rattle.test_laws.specs.PrintingTable.{ending_of, printed_error, refuses_value};
+ghost use Rattle.test_laws.specs.PrintingTable.{ending_of, refuses_value, IsPrinted, PrintsValue};
 ghost use Rattle.schema_traits.specs.Showing.{Shows};
 ghost use Rattle.schema_traits.specs.Readings.{fields, value_read};
 
@@ -36,8 +34,7 @@ fn located(
     value: &Value,
     text: String,
 ) -> Result<OwnedError, OutOfMemory>
-    ensures error { IfOk result (λ e. told_error false (owned_error_of e)
-        ≡ told_error false (printed_error (string_bytes name.now) (view value.now))) }
+    ensures error { IfOk result (IsPrinted (string_bytes name.now) (view value.now)) }
     ensures text { IfOk result (λ e. string_bytes e.text ≡ string_bytes text) }
 {
     Ok(OwnedError {
@@ -53,8 +50,7 @@ fn located(
 
 // Returns the error with the value's text.
 fn printed(alloc: Global, name: &String, value: &Value) -> Result<OwnedError, OutOfMemory>
-    ensures error { IfOk result (λ e. told_error false (owned_error_of e)
-        ≡ told_error false (printed_error (string_bytes name.now) (view value.now))) }
+    ensures error { IfOk result (IsPrinted (string_bytes name.now) (view value.now)) }
     ensures text { IfOk result (λ e. has_float (view value.now) ≡ false → string_bytes e.text ≡ compact_text (view value.now)) }
 {
     let text = value.to_string(alloc)?;
@@ -64,8 +60,7 @@ fn printed(alloc: Global, name: &String, value: &Value) -> Result<OwnedError, Ou
 // Returns the refusal of a value. Its text is covered if the value contains no fraction.
 #[tactic(auto, using(crate::specs::PrintingTable::told_alike))]
 fn refusal(alloc: Global, name: &String, value: &Value) -> Result<OwnedError, OutOfMemory>
-    ensures refusal { IfOk result (λ e. told_error (not (has_float (view value.now))) (owned_error_of e)
-        ≡ told_error (not (has_float (view value.now))) (printed_error (string_bytes name.now) (view value.now))) }
+    ensures refusal { IfOk result (PrintsValue (string_bytes name.now) (view value.now)) }
 {
     printed(alloc, name, value)
 }

@@ -1,11 +1,7 @@
 //! An answer that refuses.
-ghost use Rattle.std.specs.Prelude.{All, ◌≡◌, [], Bool, IfOk};
-ghost use Rattle.serde_json.specs.Data.{Data};
-ghost use Rattle.schema_traits.specs.FaultViews.{faults_in, PassesBorrowed};
-ghost use Rattle.schema_traits.specs.KeywordViews.{answer_of, fault_of};
-ghost use Rattle.test_laws.specs.Refusals.{refusal, refused_in, told};
-ghost use Rattle.keyword_authoring.specs.AnswerWords.{Becomes};
-ghost use Rattle.keyword_authoring.specs.Borrowing.{Retains};
+ghost use Rattle.std.specs.Prelude.{[], IfOk, OnOk};
+ghost use Rattle.keyword_authoring.specs.Borrowing.{Retains, AlwaysBorrows};
+ghost use Rattle.test_laws.specs.RefusalWords.{BorrowsAll, IsRefusal, RefusesLike, RefusesUnless};
 
 use schema_reports::{ErrorDescription, EvaluationResult, OutOfMemory};
 use schema_traits::{Answer, Fault, Found, OwnError};
@@ -14,8 +10,8 @@ use std::mem;
 
 /// Returns the error, at the keyword itself.
 fn refusal<'i>(alloc: Global) -> Result<Fault<'i>, OutOfMemory>
-    ensures refusal { IfOk result (λ fault. (texts : Bool) → fault_of texts fault ≡ refusal texts) }
-    ensures borrows { IfOk result (λ fault. (root : Data) → PassesBorrowed root fault) }
+    ensures refusal { IfOk result IsRefusal }
+    ensures borrows { IfOk result AlwaysBorrows }
 {
     let keyword = String::from_str(alloc, "refusal")?;
     let text = String::from_str(alloc, "is refused")?;
@@ -30,8 +26,8 @@ fn refusal<'i>(alloc: Global) -> Result<Fault<'i>, OutOfMemory>
 
 /// Returns the answer of the same mode that refuses with the error.
 fn refused<'i>(alloc: Global, before: Answer<'i>) -> Result<Answer<'i>, OutOfMemory>
-    ensures refused { IfOk result (λ after. (texts : Bool) → answer_of texts after ≡ refused_in texts (answer_of texts before.entry).mode) }
-    ensures borrows { IfOk result (λ after. (root : Data) → All (PassesBorrowed root) (faults_in after)) }
+    ensures refused { IfOk result (RefusesLike before.entry) }
+    ensures borrows { IfOk result BorrowsAll }
 {
     match before {
         Answer::Verdict(_) => Ok(Answer::Verdict(false)),
@@ -63,7 +59,7 @@ fn refused<'i>(alloc: Global, before: Answer<'i>) -> Result<Answer<'i>, OutOfMem
 
 /// Keeps the answer if the keyword holds, and otherwise makes it refuse.
 pub fn tell<'i>(alloc: Global, holds: bool, answer: &mut Answer<'i>) -> Result<(), OutOfMemory>
-    ensures told { IfOk result (λ _. Becomes answer.old (λ texts a. told texts holds a) answer.new) }
+    ensures told { OnOk result (RefusesUnless holds answer.old answer.new) }
     ensures borrows { Retains answer.old answer.new result }
 {
     if !holds {
