@@ -1,0 +1,4 @@
+pub mod Bits
+pub mod Matched
+pub mod Reached
+pub mod Turning

@@ -1,0 +1,5 @@
+pub mod Matching
+pub mod Nodes
+pub mod Patterns
+pub mod Sets
+pub mod Trees
