@@ -1,0 +1,16 @@
+use Rattle.std.proofs.Common.{true, ◌≡◌, ◌<◌, ◌+◌, ◌*◌, ◌-◌, ◌/◌, length}
+use Rattle.pattern_trees.specs.Patterns.{One}
+use Rattle.pattern_rows.specs.Rows.{has, width}
+use Rattle.pattern_sets.specs.Images.{leads}
+use Rattle.pattern_sets.proofs.Reaching.{Running}
+use Rattle.pattern_sets.proofs.row_steps.run_on.Given as goal
+
+abbrev pub invariant-steps : goal.invariant-steps
+invariant-steps l = record {
+  width_to : width l.to ≡ length l.text / 64;
+  width_from : width l.fn.from ≡ length l.text / 64;
+  running : Running (leads true (One l.set.spans.items) l.text) (λ x. x < l.i) (has l.fn.from) (has l.to);
+}
+
+abbrev pub decreases-steps : goal.decreases-steps
+decreases-steps l = 64 * width l.to + 64 - l.i

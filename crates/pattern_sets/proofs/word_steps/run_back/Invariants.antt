@@ -1,0 +1,11 @@
+use Rattle.std.proofs.Common.{◌≤◌, ◌<◌, false, length}
+use Rattle.pattern_trees.specs.Patterns.{One}
+use Rattle.pattern_sets.specs.Images.{in_word, leads}
+use Rattle.pattern_sets.proofs.Reaching.{Running}
+use Rattle.pattern_sets.proofs.word_steps.run_back.Given as goal
+
+abbrev pub invariant-steps : goal.invariant-steps
+invariant-steps l = (l.m ≤ length l.text) × Running (leads false (One l.set.spans.items) l.text) (λ x. l.m < x) (in_word l.fn.from) (in_word l.to)
+
+abbrev pub decreases-steps : goal.decreases-steps
+decreases-steps l = l.m

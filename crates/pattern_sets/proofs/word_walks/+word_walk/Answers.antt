@@ -1,0 +1,157 @@
+use Rattle.std.proofs.Common.{◌≡◌, ◌≤◌, ◌+◌, ◌||◌, ◌∙◌, ℕ, Some, None, length, false, arith, refl, sym, subst}
+use Rattle.pattern_trees.specs.Patterns.{Iterates}
+use Rattle.pattern_rows.proofs.Bits.{no_bit_of_zero, some_bit}
+use Rattle.pattern_sets.specs.Images.{IsImage, in_word, leads}
+use Rattle.pattern_trees.specs.Nodes.{node_of}
+use Rattle.pattern_trees.specs.Trees.{pattern_of}
+use Rattle.pattern_sets.proofs.Leading.{or_left, or_right}
+use Rattle.pattern_sets.proofs.Reaching.{exact_fixed, exact_goes_on, image_as, missing_less, or_none, reached_ends, reached_goes_on, spreads_as, within_ends, within_goes_on}
+use Rattle.pattern_sets.proofs.Walking.{either_image, look_unwanted, look_wanted, peek_unwanted_none, peek_unwanted_some, peek_wanted_none, peek_wanted_some, peeking, repeat_image}
+use Rattle.pattern_sets.proofs.word_walks.+word_walk.Goals as goal
+
+-- a word that is 0 has no position
+none_in : (word : ℕ) → word ≡ 0 → (k : ℕ) → in_word word k ≡ false
+none_in word e k = subst (λ (w : ℕ). in_word w k ≡ false) (sym e) (no_bit_of_zero k)
+
+pub word_any-returns-then-more-eq0 : goal.word_any-returns-then-more-eq0
+word_any-returns-then-more-eq0 t c =
+    let R = leads c.args.forward (pattern_of (node_of c.args.body.now)) c.args.text.now in
+    let old = in_word c.rounds.reached in
+    let more = in_word c.word_spread-more.result in
+    let none = none_in c.word_spread-more.result c.if-more-eq0.true in
+    record {
+      leaves = image_as (λ i j. (n : ℕ) × Unit {0} × Iterates R n i j) (in_word c.args.from) (λ k. old k || more k) old
+          (reached_ends R (λ _. Unit {0}) (λ _. Unit {0}) (in_word c.args.from) (λ k. old k || more k) more
+          (reached_goes_on R (λ _. Unit {0}) (λ _. Unit {0}) (in_word c.args.from) old (in_word c.rounds.fresh) (λ k. old k || more k) more c.rounds.invariant c.word_spread-more.ensures.spreads (λ n h. h) (λ n h. h))
+          (λ n h. h) none)
+          (λ k. or_none (old k) (more k) (none k));
+    }
+
+pub word_any-rounds-smaller : goal.word_any-rounds-smaller
+word_any-rounds-smaller t c =
+    let word = c.word_spread-more.result in
+    let off = c.if-more-eq0.false in
+    let some = some_bit word (omega arith) (omega arith) in
+    let within = some.1 in
+    let old = in_word c.rounds.reached in
+    let more = in_word word in
+    let spreads = c.word_spread-more.ensures.spreads in
+    let bits = c.either-reached.ensures.bits in
+    missing_less old (in_word c.either-reached.result) (λ k h. bits k ∙ or_left (old k) (more k) h) (length c.args.text.now + 64) some.0 (omega arith)
+    (spreads.unknown some.0 some.2) (bits some.0 ∙ or_right (old some.0) (more some.0) some.2)
+
+pub word_any-rounds-preserved : goal.word_any-rounds-preserved
+word_any-rounds-preserved t c =
+    let R = leads c.args.forward (pattern_of (node_of c.args.body.now)) c.args.text.now in
+    let old = in_word c.rounds.reached in
+    let more = in_word c.word_spread-more.result in
+    let new = in_word c.either-reached.result in
+    let spreads = spreads_as R old (in_word c.rounds.fresh) (λ k. old k || more k) new more c.word_spread-more.ensures.spreads c.either-reached.ensures.bits in
+    reached_goes_on R (λ _. Unit {0}) (λ _. Unit {0}) (in_word c.args.from) old (in_word c.rounds.fresh) new more c.rounds.invariant spreads (λ n h. h) (λ n h. h)
+
+pub word_at_most-returns-then-more-eq0 : goal.word_at_most-returns-then-more-eq0
+word_at_most-returns-then-more-eq0 t c =
+    let R = leads c.args.forward (pattern_of (node_of c.args.body.now)) c.args.text.now in
+    let r = c.rounds._round in
+    let old = in_word c.rounds.reached in
+    let more = in_word c.word_spread-more.result in
+    let none = none_in c.word_spread-more.result c.if-more-eq0.true in
+    let few : r + 1 ≤ c.args.most = omega arith in
+    record {
+      leaves = image_as (λ i j. (n : ℕ) × (n ≤ c.args.most) × Iterates R n i j) (in_word c.args.from) (λ k. old k || more k) old
+          (reached_ends R (λ n. n ≤ r + 1) (λ n. n ≤ c.args.most) (in_word c.args.from) (λ k. old k || more k) more
+          (reached_goes_on R (λ n. n ≤ r) (λ n. n ≤ r + 1) (in_word c.args.from) old (in_word c.rounds.fresh) (λ k. old k || more k) more c.rounds.invariant.reached c.word_spread-more.ensures.spreads (λ n h. omega arith) (λ n h. omega arith))
+          (λ n h. omega arith) none)
+          (λ k. or_none (old k) (more k) (none k));
+    }
+
+pub word_at_most-rounds-preserved : goal.word_at_most-rounds-preserved
+word_at_most-rounds-preserved t c =
+    let R = leads c.args.forward (pattern_of (node_of c.args.body.now)) c.args.text.now in
+    let r = c.rounds._round in
+    let old = in_word c.rounds.reached in
+    let more = in_word c.word_spread-more.result in
+    let new = in_word c.either-reached.result in
+    let spreads = spreads_as R old (in_word c.rounds.fresh) (λ k. old k || more k) new more c.word_spread-more.ensures.spreads c.either-reached.ensures.bits in
+    record {
+      reached = reached_goes_on R (λ n. n ≤ r) (λ n. n ≤ r + 1) (in_word c.args.from) old (in_word c.rounds.fresh) new more c.rounds.invariant.reached spreads (λ n h. omega arith) (λ n h. omega arith);
+      within = within_goes_on R (λ n. n ≤ r) r (in_word c.args.from) old (in_word c.rounds.fresh) new more c.rounds.invariant.reached spreads c.rounds.invariant.within;
+    }
+
+pub word_at_most-returns : goal.word_at_most-returns
+word_at_most-returns t c =
+    let R = leads c.args.forward (pattern_of (node_of c.args.body.now)) c.args.text.now in
+    record { leaves = within_ends R c.rounds._round c.args.most (in_word c.args.from) (in_word c.rounds.reached) (in_word c.rounds.fresh) (omega arith) (omega arith) c.rounds.invariant.reached c.rounds.invariant.within }
+
+pub word_choice-returns : goal.word_choice-returns
+word_choice-returns t c =
+    record {
+      walks = either_image c.args.forward (pattern_of (node_of c.args.a.now)) (pattern_of (node_of c.args.b.now)) c.args.text.now (in_word c.args.from) (in_word c.args.from) (in_word c.word_walk-left.result) (in_word c.word_walk-right.result) (in_word c.either.result)
+          (λ k. refl) c.word_walk-left.ensures.walks c.word_walk-right.ensures.walks c.either.ensures.bits;
+    }
+
+pub word_exactly-returns-then-led-at : goal.word_exactly-returns-then-led-at
+word_exactly-returns-then-led-at t c =
+    let R = leads c.args.forward (pattern_of (node_of c.args.body.now)) c.args.text.now in
+    let at = c.rounds.at in
+    let step = subst (λ (w : ℕ). IsImage R (in_word at) (in_word w)) c.if-led-at.true c.word_walk-led.ensures.walks in
+    record { leaves = exact_fixed R c.rounds._round c.args.count (in_word c.args.from) (in_word at) (omega arith) c.rounds.invariant step }
+
+pub word_exactly-rounds-preserved : goal.word_exactly-rounds-preserved
+word_exactly-rounds-preserved t c =
+    let R = leads c.args.forward (pattern_of (node_of c.args.body.now)) c.args.text.now in
+    exact_goes_on R c.rounds._round (in_word c.args.from) (in_word c.rounds.at) (in_word c.word_walk-led.result) c.rounds.invariant c.word_walk-led.ensures.walks
+
+pub word_look-returns-then-wanted : goal.word_look-returns-then-wanted
+word_look-returns-then-wanted t c =
+    record { walks = rw c.if-wanted.true (look_wanted c.args.forward c.args.ahead (pattern_of (node_of c.args.body.now)) c.args.text.now (in_word c.args.from) (in_word c.all.result) (in_word c.word_walk-found.result) (in_word c.both.result) c.all.ensures.all c.word_walk-found.ensures.walks c.both.ensures.bits) }
+
+pub word_look-returns-else-wanted : goal.word_look-returns-else-wanted
+word_look-returns-else-wanted t c =
+    record { walks = rw c.if-wanted.false (look_unwanted c.args.forward c.args.ahead (pattern_of (node_of c.args.body.now)) c.args.text.now (in_word c.args.from) (in_word c.all.result) (in_word c.word_walk-found.result) (in_word c.without.result) c.all.ensures.all c.word_walk-found.ensures.walks c.without.ensures.bits) }
+
+pub word_times-returns-in-None : goal.word_times-returns-in-None
+word_times-returns-in-None t c =
+    record { walks = rw c.in-None.is (repeat_image c.args.forward c.args.least None (pattern_of (node_of c.args.body.now)) c.args.text.now (in_word c.args.from) (in_word c.word_exactly-after.result) (in_word c.word_any.result) c.word_exactly-after.ensures.leaves c.word_any.ensures.leaves) }
+
+pub word_times-returns-in-Some : goal.word_times-returns-in-Some
+word_times-returns-in-Some t c =
+    record { walks = rw c.in-Some.is (repeat_image c.args.forward c.args.least (Some c.in-Some.most) (pattern_of (node_of c.args.body.now)) c.args.text.now (in_word c.args.from) (in_word c.word_exactly-after.result) (in_word c.word_at_most.result) c.word_exactly-after.ensures.leaves c.word_at_most.ensures.leaves) }
+
+pub word_peek-returns-then-wanted : goal.word_peek-returns-then-wanted
+word_peek-returns-then-wanted t c =
+    record {
+      walks = λ one. rw c.if-wanted.true (peek_wanted_none c.args.forward c.args.ahead (pattern_of (node_of c.args.body.now)) c.args.text.now (in_word c.args.from) (in_word c.word_walk-led.result) (in_word c.both-near.result) (in_word 0)
+          (peeking c.args.ahead (pattern_of (node_of c.args.body.now)) c.args.text.now (in_word c.args.from) (in_word c.word_walk-led.result) (in_word c.both-near.result) (in_word c.all.result) one c.word_walk-led.ensures.walks c.both-near.ensures.bits c.all.ensures.all)
+          (none_in c.both-near.result c.if-near-eq0.true) no_bit_of_zero);
+    }
+
+pub word_peek-returns-else-wanted : goal.word_peek-returns-else-wanted
+word_peek-returns-else-wanted t c =
+    record {
+      walks = λ one. rw c.if-wanted.false (peek_unwanted_none c.args.forward c.args.ahead (pattern_of (node_of c.args.body.now)) c.args.text.now (in_word c.args.from) (in_word c.word_walk-led.result) (in_word c.both-near.result) (in_word c.args.from)
+          (peeking c.args.ahead (pattern_of (node_of c.args.body.now)) c.args.text.now (in_word c.args.from) (in_word c.word_walk-led.result) (in_word c.both-near.result) (in_word c.all.result) one c.word_walk-led.ensures.walks c.both-near.ensures.bits c.all.ensures.all)
+          (none_in c.both-near.result c.if-near-eq0.true) (λ k. refl));
+    }
+
+pub word_peek-returns-then-wanted-2 : goal.word_peek-returns-then-wanted-2
+word_peek-returns-then-wanted-2 t c =
+    let near = c.both-near.result in
+    let off = c.if-near-eq0.false in
+    let bit = some_bit near (omega arith) (omega arith) in
+    record {
+      walks = λ one. rw c.if-wanted-2.true (peek_wanted_some c.args.forward c.args.ahead (pattern_of (node_of c.args.body.now)) c.args.text.now (in_word c.args.from) (in_word c.word_walk-led.result) (in_word near) (in_word c.args.from)
+          (peeking c.args.ahead (pattern_of (node_of c.args.body.now)) c.args.text.now (in_word c.args.from) (in_word c.word_walk-led.result) (in_word near) (in_word c.all.result) one c.word_walk-led.ensures.walks c.both-near.ensures.bits c.all.ensures.all)
+          bit.0 bit.2 (λ k. refl));
+    }
+
+pub word_peek-returns-else-wanted-2 : goal.word_peek-returns-else-wanted-2
+word_peek-returns-else-wanted-2 t c =
+    let near = c.both-near.result in
+    let off = c.if-near-eq0.false in
+    let bit = some_bit near (omega arith) (omega arith) in
+    record {
+      walks = λ one. rw c.if-wanted-2.false (peek_unwanted_some c.args.forward c.args.ahead (pattern_of (node_of c.args.body.now)) c.args.text.now (in_word c.args.from) (in_word c.word_walk-led.result) (in_word near) (in_word 0)
+          (peeking c.args.ahead (pattern_of (node_of c.args.body.now)) c.args.text.now (in_word c.args.from) (in_word c.word_walk-led.result) (in_word near) (in_word c.all.result) one c.word_walk-led.ensures.walks c.both-near.ensures.bits c.all.ensures.all)
+          bit.0 bit.2 no_bit_of_zero);
+    }

@@ -1,0 +1,58 @@
+-- Where a pattern leads from a set of positions.
+use Rattle.std.specs.Prelude.{◌≡◌, ◌<◌, ◌||◌, ℕ, Bool, true, false, List, Option, length, slice_index, ◌==◌}
+use Rattle.std.specs.Int.{bit_at}
+use Rattle.pattern_rows.specs.declared.row.Row.{Row}
+use Rattle.pattern_rows.specs.Rows.{has, width}
+use Rattle.pattern_trees.specs.Sets.{in_set}
+use Rattle.pattern_trees.specs.Patterns.{IsWithin, Iterates, Leads, Matches, Pattern}
+
+-- a set is where a relation leads from another
+pub record IsImage (R : ℕ → ℕ → Type 0) (from to : ℕ → Bool) : Type 0 where
+  pub sound : (j : ℕ) → to j ≡ true → (i : ℕ) × (from i ≡ true) × R i j
+  pub complete : (i j : ℕ) → from i ≡ true → R i j → to j ≡ true
+
+-- the relation of a pattern, read from left to right or from right to left
+abbrev pub leads : Bool → Pattern → List ℕ → ℕ → ℕ → Type 0
+leads forward p text = Leads forward (λ i j. Matches p text i j)
+
+-- a row is where a pattern leads from another row
+pub record Walks (forward : Bool) (p : Pattern) (text : List ℕ) (from to : Row) : Type 0 where
+  pub image : IsImage (leads forward p text) (has from) (has to)
+  pub width : width to ≡ width from
+
+-- the same of any relation
+pub record Leaves (R : ℕ → ℕ → Type 0) (from to : Row) : Type 0 where
+  pub image : IsImage R (has from) (has to)
+  pub width : width to ≡ width from
+
+-- the part of an image that comes from positions below one
+pub record IsImageBelow (i : ℕ) (R : ℕ → ℕ → Type 0) (from to : ℕ → Bool) : Type 0 where
+  pub sound : (j : ℕ) → to j ≡ true → (k : ℕ) × (k < i) × (from k ≡ true) × R k j
+  pub complete : (k j : ℕ) → k < i → from k ≡ true → R k j → to j ≡ true
+
+-- one round of a search: fresh positions lead to the next ones, which are none of those that were reached before
+pub record Spreads (R : ℕ → ℕ → Type 0) (all fresh new next : ℕ → Bool) : Type 0 where
+  pub added : (k : ℕ) → new k ≡ (all k || next k)
+  pub led : (j : ℕ) → next j ≡ true → (i : ℕ) × (fresh i ≡ true) × R i j
+  pub unknown : (j : ℕ) → next j ≡ true → all j ≡ false
+  pub whole : (i j : ℕ) → fresh i ≡ true → R i j → new j ≡ true
+
+-- one relation, then another
+abbrev pub Joined : (ℕ → ℕ → Type 0) → (ℕ → ℕ → Type 0) → ℕ → ℕ → Type 0
+Joined R S i j = (k : ℕ) × R i k × S k j
+
+-- any number of steps, or at most so many
+abbrev pub Steps : Option ℕ → (ℕ → ℕ → Type 0) → ℕ → ℕ → Type 0
+Steps most R i j = (n : ℕ) × IsWithin n most × Iterates R n i j
+
+-- the character after a position is in a set
+abbrev pub IsTaken : List (ℕ × ℕ) → List ℕ → ℕ → Type 0
+IsTaken set text i = (i < length text) × (in_set set (slice_index text i) ≡ true)
+
+-- a position of a word
+abbrev pub in_word : ℕ → ℕ → Bool
+in_word word k = bit_at word k == 1
+
+-- a set of at most one position
+abbrev pub IsOne : (ℕ → Bool) → Type 0
+IsOne from = (x y : ℕ) → from x ≡ true → from y ≡ true → x ≡ y

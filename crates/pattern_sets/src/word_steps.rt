@@ -1,0 +1,171 @@
+//! One step of a pattern on words, and any number of steps over one set.
+ghost use Rattle.std.specs.Prelude.{◌≡◌, ◌<◌, ◌≤◌, ◌+◌, ◌-◌, ◌==◌, ◌&&◌, ◌||◌, ℕ, Some, None, MatchOption, length, true, false, nat_le};
+ghost use Rattle.pattern_trees.specs.Patterns.{At, One};
+ghost use Rattle.pattern_sets.specs.Images.{IsImage, IsTaken, Steps, in_word, leads};
+
+use crate::at_position::{is_at, takes};
+use pattern_rows::{both, lowest, ones, with};
+use pattern_trees::{CharSet, Edge};
+
+/// Returns the next position of a word from one on.
+#[inline(always)]
+pub fn next(word: u64, from: usize) -> Option<usize>
+    ensures next { MatchOption result ((k : ℕ) → from ≤ k → in_word word k ≡ false)
+        (λ m. (from ≤ m) × (in_word word m ≡ true) × ((k : ℕ) → from ≤ k → k < m → in_word word k ≡ false) × (m < 64)) }
+{
+    if from >= 64 {
+        return None;
+    }
+    lowest(word, from)
+}
+
+// Returns whether a word has a position.
+#[inline(always)]
+fn has(word: u64, position: usize) -> bool
+    requires within { position < 64 }
+    ensures has { result ≡ in_word word position }
+{
+    (word >> position) & 1 == 1
+}
+
+/// Returns all positions up to the last.
+#[inline(always)]
+pub fn all(last: usize) -> u64
+    requires within { last < 64 }
+    ensures all { (k : ℕ) → in_word result k ≡ nat_le k last }
+{
+    ones(last + 1)
+}
+
+// Returns one position of a word, if it is there.
+#[inline(always)]
+fn only(word: u64, position: usize) -> u64
+    requires within { position < 64 }
+    ensures only { (k : ℕ) → in_word result k ≡ (in_word word k && k == position) }
+{
+    both(word, with(0, position))
+}
+
+/// Returns where one character of a set leads, on.
+pub fn step_on(set: &CharSet, text: &[char], from: u64) -> u64
+    requires short { length text.now < 64 }
+    ensures walks { IsImage (leads true (One set.now.spans.items) text.now) (in_word from) (in_word result) }
+{
+    let mut to = 0u64;
+    let mut i = 0;
+    'steps: while let Some(m) = next(from, i) {
+        if takes(set, text, m) {
+            to = with(to, m + 1);
+        }
+        i = m + 1;
+    }
+    to
+}
+
+// Returns whether there is a character before a position, in a set.
+#[inline]
+fn takes_back(set: &CharSet, text: &[char], position: usize) -> bool
+    ensures yes { result ≡ true → (0 < position) × IsTaken set.now.spans.items text.now (position - 1) }
+    ensures no { result ≡ false → 0 < position → ¬ (IsTaken set.now.spans.items text.now (position - 1)) }
+{
+    0 < position && takes(set, text, position - 1)
+}
+
+/// Returns where one character of a set leads, back.
+pub fn step_back(set: &CharSet, text: &[char], from: u64) -> u64
+    requires short { length text.now < 64 }
+    ensures walks { IsImage (leads false (One set.now.spans.items) text.now) (in_word from) (in_word result) }
+{
+    let mut to = 0u64;
+    let mut i = 0;
+    'steps: while let Some(m) = next(from, i) {
+        if takes_back(set, text, m) {
+            to = with(to, m - 1);
+        }
+        i = m + 1;
+    }
+    to
+}
+
+// Returns where any number of characters of a set lead, on.
+fn run_on(set: &CharSet, text: &[char], from: u64) -> u64
+    requires short { length text.now < 64 }
+    ensures leaves { IsImage (Steps None (leads true (One set.now.spans.items) text.now)) (in_word from) (in_word result) }
+{
+    let mut to = from;
+    let mut i = 0;
+    'steps: while let Some(m) = next(to, i) {
+        if takes(set, text, m) {
+            to = with(to, m + 1);
+        }
+        i = m + 1;
+    }
+    to
+}
+
+// Returns whether a position is in a word, and the character before it in a set.
+#[inline]
+fn leads_back(set: &CharSet, text: &[char], row: u64, position: usize) -> bool
+    requires some { 0 < position }
+    requires within { position < 64 }
+    ensures yes { result ≡ true → (in_word row position ≡ true) × IsTaken set.now.spans.items text.now (position - 1) }
+    ensures no { result ≡ false → in_word row position ≡ true → ¬ (IsTaken set.now.spans.items text.now (position - 1)) }
+{
+    has(row, position) && takes(set, text, position - 1)
+}
+
+// Returns where any number of characters of a set lead, back.
+fn run_back(set: &CharSet, text: &[char], from: u64) -> u64
+    requires short { length text.now < 64 }
+    ensures leaves { IsImage (Steps None (leads false (One set.now.spans.items) text.now)) (in_word from) (in_word result) }
+{
+    let mut to = from;
+    let mut m = text.len();
+    'steps: while 0 < m {
+        if leads_back(set, text, to, m) {
+            to = with(to, m - 1);
+        }
+        m -= 1;
+    }
+    to
+}
+
+/// Returns where any number of characters of a set lead, on or back.
+pub fn run(set: &CharSet, text: &[char], forward: bool, from: u64) -> u64
+    requires short { length text.now < 64 }
+    ensures leaves { IsImage (Steps None (leads forward (One set.now.spans.items) text.now)) (in_word from) (in_word result) }
+{
+    if forward {
+        run_on(set, text, from)
+    } else {
+        run_back(set, text, from)
+    }
+}
+
+// Returns the positions where an assertion holds, tried at each.
+fn keep_each(edge: Edge, text: &[char], forward: bool, from: u64) -> u64
+    requires short { length text.now < 64 }
+    ensures walks { IsImage (leads forward (At edge) text.now) (in_word from) (in_word result) }
+{
+    let mut to = 0u64;
+    let mut i = 0;
+    'steps: while let Some(m) = next(from, i) {
+        if is_at(edge, text, m) {
+            to = with(to, m);
+        }
+        i = m + 1;
+    }
+    to
+}
+
+/// Returns the positions where an assertion holds.
+pub fn keep_edges(edge: Edge, text: &[char], forward: bool, from: u64) -> u64
+    requires short { length text.now < 64 }
+    ensures walks { IsImage (leads forward (At edge) text.now) (in_word from) (in_word result) }
+{
+    match edge {
+        Edge::TextStart => only(from, 0),
+        Edge::TextEnd => only(from, text.len()),
+        _ => keep_each(edge, text, forward, from),
+    }
+}

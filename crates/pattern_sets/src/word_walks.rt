@@ -1,0 +1,231 @@
+//! Where a pattern leads, where the positions of the text fit into one word.
+ghost use Rattle.std.specs.Prelude.{◌≡◌, ◌<◌, ◌≤◌, ◌+◌, ◌-◌, ◌==◌, ◌&&◌, ◌||◌, ℕ, Some, None, MatchOption, length, true, false, nat_le};
+ghost use Rattle.pattern_trees.specs.Nodes.{node_of};
+ghost use Rattle.pattern_trees.specs.Patterns.{Either, IsFound, Iterates, Look, Repeat};
+ghost use Rattle.pattern_trees.specs.Trees.{pattern_of};
+ghost use Rattle.pattern_sets.specs.Images.{IsImage, IsOne, Joined, Spreads, Steps, in_word, leads};
+
+use crate::turns::more_turns;
+use crate::word_steps::{all, keep_edges, next, run, step_back, step_on};
+use pattern_rows::{both, either, without};
+use pattern_trees::Tree;
+
+/// Returns where a pattern leads in a text of at most 63 characters.
+#[cycle(word_walk)]
+pub fn word_walk(tree: &Tree, text: &[char], forward: bool, from: u64) -> u64
+    requires short { length text.now < 64 }
+    ensures walks { IsImage (leads forward (pattern_of (node_of tree.now)) text.now) (in_word from) (in_word result) }
+{
+    if from == 0 {
+        0
+    } else {
+        word_lead(tree, text, forward, from)
+    }
+}
+
+// Returns the same, of a set that is likely not empty.
+#[cycle(word_walk)]
+fn word_lead(tree: &Tree, text: &[char], forward: bool, from: u64) -> u64
+    requires short { length text.now < 64 }
+    ensures walks { IsImage (leads forward (pattern_of (node_of tree.now)) text.now) (in_word from) (in_word result) }
+{
+    match tree {
+        Tree::Nothing => from,
+        Tree::OneOf(set) => {
+            if forward {
+                step_on(set, text, from)
+            } else {
+                step_back(set, text, from)
+            }
+        }
+        Tree::Pair(a, b) => {
+            if forward {
+                word_both(a, b, text, forward, from)
+            } else {
+                word_both(b, a, text, forward, from)
+            }
+        }
+        Tree::Choice(a, b) => word_choice(a, b, text, forward, from),
+        Tree::Times(turns, body) => word_times(
+            turns.min,
+            more_turns(turns),
+            body,
+            text,
+            forward,
+            from,
+        ),
+        Tree::At(edge) => keep_edges(*edge, text, forward, from),
+        Tree::Reference(_) => 0,
+        Tree::Group(_, body) => word_walk(body, text, forward, from),
+        Tree::Around(look, body) => word_look(look.ahead, look.wanted, body, text, forward, from),
+    }
+}
+
+// Returns where one pattern leads, and then another.
+#[cycle(word_walk)]
+fn word_both(a: &Tree, b: &Tree, text: &[char], forward: bool, from: u64) -> u64
+    requires short { length text.now < 64 }
+    ensures leaves { IsImage (Joined (leads forward (pattern_of (node_of a.now)) text.now) (leads forward (pattern_of (node_of b.now)) text.now)) (in_word from) (in_word result) }
+{
+    let mid = word_walk(a, text, forward, from);
+    word_walk(b, text, forward, mid)
+}
+
+// Returns where one of two patterns leads.
+#[cycle(word_walk)]
+fn word_choice(a: &Tree, b: &Tree, text: &[char], forward: bool, from: u64) -> u64
+    requires short { length text.now < 64 }
+    ensures walks { IsImage (leads forward (Either (pattern_of (node_of a.now)) (pattern_of (node_of b.now))) text.now) (in_word from) (in_word result) }
+{
+    let left = word_walk(a, text, forward, from);
+    let right = word_walk(b, text, forward, from);
+    either(left, right)
+}
+
+// Returns whether a word has at most one position.
+fn is_one(word: u64) -> bool
+    ensures one { result ≡ true → IsOne (in_word word) }
+{
+    match next(word, 0) {
+        None => true,
+        Some(m) => match next(word, m + 1) {
+            None => true,
+            Some(_) => false,
+        },
+    }
+}
+
+// Returns the one position of a word, if a lookaround holds there.
+//
+// Its body is walked from there, the way that it looks.
+#[cycle(word_walk)]
+fn word_peek(ahead: bool, wanted: bool, body: &Tree, text: &[char], forward: bool, from: u64) -> u64
+    requires short { length text.now < 64 }
+    ensures walks { IsOne (in_word from) → IsImage (leads forward (Look ahead wanted (pattern_of (node_of body.now))) text.now) (in_word from) (in_word result) }
+{
+    let led = word_walk(body, text, ahead, from);
+    let near = both(led, all(text.len()));
+    if near == 0 {
+        if wanted { 0 } else { from }
+    } else {
+        if wanted { from } else { 0 }
+    }
+}
+
+// Returns the positions where a lookaround holds.
+#[cycle(word_walk)]
+fn word_look(ahead: bool, wanted: bool, body: &Tree, text: &[char], forward: bool, from: u64) -> u64
+    requires short { length text.now < 64 }
+    ensures walks { IsImage (leads forward (Look ahead wanted (pattern_of (node_of body.now))) text.now) (in_word from) (in_word result) }
+{
+    if is_one(from) {
+        return word_peek(ahead, wanted, body, text, forward, from);
+    }
+    let found = word_walk(body, text, !ahead, all(text.len()));
+    if wanted {
+        both(from, found)
+    } else {
+        without(from, found)
+    }
+}
+
+// Returns where a repetition leads.
+#[cycle(word_walk)]
+fn word_times(
+    least: u32,
+    more: Option<u32>,
+    body: &Tree,
+    text: &[char],
+    forward: bool,
+    from: u64,
+) -> u64
+    requires short { length text.now < 64 }
+    ensures walks { IsImage (leads forward (Repeat least more (pattern_of (node_of body.now))) text.now) (in_word from) (in_word result) }
+{
+    let after = word_exactly(least, body, text, forward, from);
+    match more {
+        None => word_any(body, text, forward, after),
+        Some(most) => word_at_most(most, body, text, forward, after),
+    }
+}
+
+// Returns where so many steps lead.
+//
+// A set that leads to itself is where all further steps lead.
+#[cycle(word_walk)]
+fn word_exactly(count: u32, body: &Tree, text: &[char], forward: bool, from: u64) -> u64
+    requires short { length text.now < 64 }
+    ensures leaves { IsImage (Iterates (leads forward (pattern_of (node_of body.now)) text.now) count) (in_word from) (in_word result) }
+{
+    let mut at = from;
+    'rounds: for _round in 0..count {
+        let led = word_walk(body, text, forward, at);
+        if led == at {
+            return at;
+        }
+        at = led;
+    }
+    at
+}
+
+// Returns the positions that one round of a search adds.
+#[cycle(word_walk)]
+fn word_spread(body: &Tree, text: &[char], forward: bool, reached: u64, fresh: u64) -> u64
+    requires short { length text.now < 64 }
+    ensures spreads { Spreads (leads forward (pattern_of (node_of body.now)) text.now) (in_word reached) (in_word fresh) (λ k. in_word reached k || in_word result k) (in_word result) }
+{
+    let led = word_walk(body, text, forward, fresh);
+    without(led, reached)
+}
+
+// Returns where any number of steps lead.
+#[cycle(word_walk)]
+fn word_any(body: &Tree, text: &[char], forward: bool, from: u64) -> u64
+    requires short { length text.now < 64 }
+    ensures leaves { IsImage (Steps None (leads forward (pattern_of (node_of body.now)) text.now)) (in_word from) (in_word result) }
+{
+    if let Tree::OneOf(set) = body {
+        return run(set, text, forward, from);
+    }
+    let mut fresh = from;
+    let mut reached = from;
+    'rounds: loop {
+        let more = word_spread(body, text, forward, reached, fresh);
+        if more == 0 {
+            return reached;
+        }
+        reached = either(reached, more);
+        fresh = more;
+    }
+}
+
+// Returns where at most so many steps lead.
+#[cycle(word_walk)]
+fn word_at_most(most: u32, body: &Tree, text: &[char], forward: bool, from: u64) -> u64
+    requires short { length text.now < 64 }
+    ensures leaves { IsImage (Steps (Some most) (leads forward (pattern_of (node_of body.now)) text.now)) (in_word from) (in_word result) }
+{
+    let mut fresh = from;
+    let mut reached = from;
+    'rounds: for _round in 0..most {
+        let more = word_spread(body, text, forward, reached, fresh);
+        if more == 0 {
+            return reached;
+        }
+        reached = either(reached, more);
+        fresh = more;
+    }
+    reached
+}
+
+/// Returns whether a pattern matches somewhere in a text of at most 63 characters.
+///
+/// It allocates nothing.
+pub fn word_matches(tree: &Tree, text: &[char]) -> bool
+    requires short { length text.now < 64 }
+    ensures yes { result ≡ true → IsFound (pattern_of (node_of tree.now)) text.now }
+    ensures no { result ≡ false → ¬ (IsFound (pattern_of (node_of tree.now)) text.now) }
+{
+    let found = word_walk(tree, text, true, all(text.len()));
+    found != 0
+}
