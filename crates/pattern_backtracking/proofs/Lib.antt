@@ -1,0 +1,4 @@
+pub mod Counts
+pub mod Erasing
+pub mod Steps
+pub mod Traces
