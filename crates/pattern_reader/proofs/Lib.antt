@@ -1,0 +1,4 @@
+pub mod Changing
+pub mod Lasts
+pub mod OfMembers
+pub mod Ordered

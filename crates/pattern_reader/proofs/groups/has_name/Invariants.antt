@@ -1,0 +1,9 @@
+use Rattle.std.proofs.Common.{◌≡◌, length}
+use Rattle.pattern_reader.specs.Names.{names_of, has_name}
+use Rattle.pattern_reader.proofs.groups.has_name.Given as goal
+
+abbrev pub invariant-loop-rest : goal.invariant-loop-rest
+invariant-loop-rest l = has_name l.wanted (names_of l.rest) ≡ has_name l.wanted (names_of l.names)
+
+abbrev pub decreases-loop-rest : goal.decreases-loop-rest
+decreases-loop-rest l = length l.rest
