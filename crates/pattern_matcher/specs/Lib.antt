@@ -1,0 +1,3 @@
+pub mod PatternMatching
+pub mod ReadViews
+pub mod SchemaPatterns

@@ -1,0 +1,98 @@
+//! Whether a pattern matches somewhere in a text.
+ghost use Rattle.std.specs.Prelude.{◌≡◌, ℕ, Some, true};
+ghost use Rattle.pattern_trees.specs.Matching.{found};
+ghost use Rattle.pattern_trees.specs.Nodes.{node_of};
+ghost use Rattle.schema_reports.specs.Showing.{Shows, Yields};
+ghost use Rattle.unfinished_matches.specs.MatchViews.{match_of};
+ghost use Rattle.pattern_matcher.specs.PatternMatching.{decided_match, is_plain, readable_match, referring_match};
+ghost use Rattle.pattern_matcher.specs.ReadViews.{reading_seen};
+
+use pattern_backtracking::find_within;
+use pattern_reader::Pattern;
+use pattern_sets::matches;
+use schema_reports::{OutOfMemory, Text};
+use std::alloc::{AllocError, Global};
+use unfinished_matches::{Match, Reason};
+
+const LIMIT_TEXT: &str = "Error executing regex: Max limit for backtracking count exceeded";
+
+// Returns whether a pattern without back references matches.
+fn plain_found(alloc: Global, pattern: &Pattern, text: &[char]) -> Result<bool, OutOfMemory>
+    requires plain { is_plain (node_of pattern.now.tree) ≡ true }
+    ensures found { Yields result (found (node_of pattern.now.tree) pattern.now.groups text.now) }
+{
+    let found = matches(alloc, &pattern.tree, text)?;
+    Ok(found)
+}
+
+// Returns whether a pattern matches, however many steps that takes.
+//
+// After 2^64 steps the call is out of memory.
+fn found(alloc: Global, pattern: &Pattern, text: &[char]) -> Result<bool, OutOfMemory>
+    ensures found { Yields result (found (node_of pattern.now.tree) pattern.now.groups text.now) }
+{
+    match find_within(
+        alloc,
+        &pattern.tree,
+        pattern.groups as usize,
+        text,
+        u64::MAX,
+    )? {
+        Some(found) => Ok(found),
+        None => Err(AllocError {}),
+    }
+}
+
+// Returns the match of a search that may have been left at its limit.
+fn decided_match(alloc: Global, decided: Option<bool>) -> Result<Match, OutOfMemory>
+    ensures decided { Shows match_of result (decided_match decided) }
+{
+    match decided {
+        Some(found) => Ok(Match::Finished(found)),
+        None => {
+            let text = Text::new(alloc, LIMIT_TEXT)?;
+            Ok(Match::Unfinished(Reason::Limit(text)))
+        }
+    }
+}
+
+// Returns the match of a pattern with a back reference.
+fn referring_match(
+    alloc: Global,
+    limit: Option<u64>,
+    pattern: &Pattern,
+    text: &[char],
+) -> Result<Match, OutOfMemory>
+    ensures answer { Shows match_of result (referring_match limit (reading_seen pattern.now) text.now) }
+{
+    match limit {
+        Some(limit) => {
+            let decided = find_within(alloc, &pattern.tree, pattern.groups as usize, text, limit)?;
+            decided_match(alloc, decided)
+        }
+        None => Ok(Match::Finished(found(alloc, pattern, text)?)),
+    }
+}
+
+/// Returns the match of a pattern and a text.
+///
+/// The caller knows whether the pattern is plain.
+///
+/// # Errors
+///
+/// Out of memory. Without a limit, also if a match takes 2^64 steps.
+pub fn readable_match(
+    alloc: Global,
+    limit: Option<u64>,
+    plain: bool,
+    pattern: &Pattern,
+    text: &[char],
+) -> Result<Match, OutOfMemory>
+    requires plain { plain ≡ is_plain (node_of pattern.now.tree) }
+    ensures answer { Shows match_of result (readable_match limit (reading_seen pattern.now) text.now) }
+{
+    if plain {
+        return Ok(Match::Finished(plain_found(alloc, pattern, text)?));
+    }
+    referring_match(alloc, limit, pattern, text)
+}

@@ -1,0 +1,153 @@
+//! The patterns of documents, each read once.
+ghost use Rattle.std.specs.Prelude.{◌≡◌, ◌++◌, ◌∷◌, [], IfErr, IfOk, IfSome, map, slice_get};
+ghost use Rattle.std.specs.List.{list_any};
+ghost use Rattle.serde_json.specs.View.{view};
+ghost use Rattle.pattern_matcher.specs.PatternMatching.{careful, is_unreadable, refers};
+ghost use Rattle.pattern_matcher.specs.SchemaPatterns.{IsAdded, patterns_of};
+
+use crate::documents::patterns_of;
+use crate::read_pattern::ReadPattern;
+use crate::treatment::{Treatment, Unreadable};
+use schema_reports::OutOfMemory;
+use serde_json::Value;
+use std::alloc::Global;
+use std::collections::HashMap;
+use std::marker::Model;
+
+const STEP_LIMIT: u64 = 1_000_000;
+
+/// A table of patterns, each read once.
+#[derive(Drop)]
+pub struct Patterns {
+    read: Vec<ReadPattern>,
+    places: HashMap<String, usize>,
+}
+
+impl Model for Patterns {
+    ghost use Rattle.std.specs.Prelude.{List};
+    ghost use Rattle.theory_definitions.specs.Instance.{Text};
+
+    ghost Value = { List Text };
+
+    ghost view = { λ p. p.read.items };
+}
+
+impl Patterns {
+    /// Makes an empty table.
+    pub fn new(alloc: Global) -> Patterns
+        ensures { result ≡ [] }
+    {
+        Patterns {
+            read: Vec::new(alloc),
+            places: HashMap::new(alloc),
+        }
+    }
+
+    /// Reads the patterns in documents.
+    ///
+    /// These are each text under a member `pattern`, and each member's name under a member
+    /// `patternProperties`, anywhere in the documents. An unreadable pattern is no error.
+    ///
+    /// # Errors
+    ///
+    /// Out of memory.
+    pub fn for_schemas(alloc: Global, documents: &[&Value]) -> Result<Patterns, OutOfMemory>
+        ensures patterns { IfOk result (IsAdded [] (patterns_of (map (λ d. view d.now) documents.now))) }
+    {
+        let texts = patterns_of(alloc, documents)?;
+        let mut patterns = Patterns::new(alloc);
+        for text in texts.as_slice() {
+            patterns.add(alloc, text.as_str())?;
+        }
+        Ok(patterns)
+    }
+
+    /// Reads a pattern, if it is not in the table.
+    ///
+    /// # Errors
+    ///
+    /// Out of memory. The table is then unchanged.
+    pub fn add(&mut self, alloc: Global, pattern: &str) -> Result<(), OutOfMemory>
+        ensures added { IfOk result (λ _. IsAdded self.old (pattern.now ∷ []) self.new) }
+        ensures kept { IfErr result (λ _. self.new ≡ self.old) }
+    {
+        if self.place_of(pattern).is_some() {
+            return Ok(());
+        }
+        let read = ReadPattern::new(alloc, pattern)?;
+        let name = String::from_str(alloc, pattern)?;
+        self.keep(name, read)?;
+        Ok(())
+    }
+
+    fn keep(&mut self, name: String, read: ReadPattern) -> Result<(), OutOfMemory>
+        ensures added { IfOk result (λ _. self.new ≡ self.old ++ read ∷ []) }
+        ensures kept { IfErr result (λ _. self.new ≡ self.old) }
+    {
+        self.places.insert(name, self.read.len())?;
+        self.read.push(read)?;
+        Ok(())
+    }
+
+    // Returns the place of a pattern, if it is in the table.
+    fn place_of(&self, pattern: &str) -> Option<usize>
+        ensures place { IfSome result (λ i. slice_get self.now i ≡ Some pattern.now) }
+    {
+        let place = self.places.get(pattern).copied()?;
+        let read = self.read.get(place)?;
+        if read.source() != pattern {
+            return None;
+        }
+        Some(place)
+    }
+
+    /// Returns what a text was read as, if it is in the table.
+    pub fn find(&self, pattern: &str) -> Option<&ReadPattern>
+        ensures same { IfSome result (λ p. p.now ≡ pattern.now) }
+    {
+        let place = self.place_of(pattern)?;
+        self.read.get(place)
+    }
+
+    fn has_unreadable(&self) -> bool
+        ensures unreadable { result ≡ list_any is_unreadable self.now }
+    {
+        for read in self.read.as_slice() {
+            if !read.is_readable() {
+                return true;
+            }
+        }
+        false
+    }
+
+    fn has_referring(&self) -> bool
+        ensures refers { result ≡ list_any refers self.now }
+    {
+        for read in self.read.as_slice() {
+            if read.refers() {
+                return true;
+            }
+        }
+        false
+    }
+
+    /// Returns the treatment that leaves a match unfinished only if a pattern asks for it.
+    ///
+    /// Matches of unreadable patterns are left unfinished if the table has one. A match with a back
+    /// reference takes at most a million steps if the table has a pattern with one.
+    pub fn treatment(&self) -> Treatment
+        ensures careful { result ≡ careful self.now }
+    {
+        let unreadable = if self.has_unreadable() {
+            Unreadable::LeftUnfinished
+        } else {
+            Unreadable::MatchesNothing
+        };
+        let limit = if self.has_referring() {
+            Some(STEP_LIMIT)
+        } else {
+            None
+        };
+        Treatment { unreadable, limit }
+    }
+}

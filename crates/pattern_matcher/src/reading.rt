@@ -1,0 +1,36 @@
+//! Reads texts, as characters and as patterns.
+ghost use Rattle.std.specs.Prelude.{◌≡◌, IfOk, chars, option_map};
+ghost use Rattle.pattern_matcher.specs.PatternMatching.{reading_of};
+ghost use Rattle.pattern_matcher.specs.ReadViews.{reading_seen};
+
+use pattern_reader::{Pattern, read};
+use schema_reports::OutOfMemory;
+use std::alloc::Global;
+
+/// Returns the characters of a text.
+///
+/// # Errors
+///
+/// Out of memory.
+pub fn chars_of(alloc: Global, text: &str) -> Result<Vec<char>, OutOfMemory>
+    ensures chars { IfOk result (λ v. v.items ≡ chars text.now) }
+{
+    let mut chars = Vec::new(alloc);
+    for c in text.chars() {
+        chars.push(c)?;
+    }
+    Ok(chars)
+}
+
+/// Reads a text as a pattern; `None` if it cannot be read.
+///
+/// # Errors
+///
+/// Out of memory.
+pub fn read_pattern(alloc: Global, text: &str) -> Result<Option<Pattern>, OutOfMemory>
+    ensures reading { IfOk result (λ o. option_map reading_seen o ≡ reading_of text.now) }
+{
+    let chars = chars_of(alloc, text)?;
+    let reading = read(alloc, chars.as_slice())?;
+    Ok(reading.ok())
+}
