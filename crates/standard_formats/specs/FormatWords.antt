@@ -6,7 +6,7 @@ use Rattle.serde_json.specs.Find.{as_str}
 use Rattle.theory_definitions.specs.Instance.{Subject, Text, a_name, a_value}
 use Rattle.theory_definitions.specs.Meaning.{subject_text}
 use Rattle.keyword_authoring.specs.Ways.{unless}
-use Rattle.regex_matcher.specs.RegexMatching.{is_readable}
+use Rattle.pattern_matcher.specs.PatternMatching.{is_readable}
 use Rattle.text_formats.specs.Formats.{accepts, name_of}
 use Rattle.standard_formats.specs.declared.keyword.FormatKeyword.{FormatKeyword}
 use Rattle.standard_formats.specs.declared.keyword.FormatKeyword.TheVariants.{Base64, IdnHostname, Json, JsonInBase64, Of, Regex}

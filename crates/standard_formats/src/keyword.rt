@@ -9,7 +9,7 @@ ghost use Rattle.schema_reports.specs.Showing.{Adds};
 use crate::contents::{is_base64, is_json, is_json_in_base64};
 use crate::idn_hostnames::is_idn_hostname;
 use keyword_authoring::{CloneTelling, TellingKeyword};
-use regex_matcher::is_readable;
+use pattern_matcher::is_readable;
 use schema_reports::{Instance, OutOfMemory};
 use std::alloc::Global;
 use text_formats::Format;
