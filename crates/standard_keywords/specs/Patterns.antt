@@ -8,7 +8,7 @@ use Rattle.theory_definitions.specs.Instance.{Text, a_name}
 use Rattle.theory_definitions.specs.Meaning.{subject_text}
 use Rattle.schema_traits.specs.KeywordViews.{option_list}
 use Rattle.keyword_makers.specs.Members.{names_of}
-use Rattle.regex_matcher.specs.RegexMatching.{first_unreadable}
+use Rattle.pattern_matcher.specs.PatternMatching.{first_unreadable}
 use Rattle.standard_keywords.specs.declared.patterns.UnreadablePatterns.{UnreadablePatterns}
 use Rattle.standard_keywords.specs.declared.patterns.UnreadablePatterns.TheVariants.{LeftToTheMatcher, Refused}
 

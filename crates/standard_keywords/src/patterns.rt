@@ -12,7 +12,7 @@ ghost use Rattle.schema_traits.specs.Readings.{fields};
 ghost use Rattle.standard_keywords.specs.MakerWords.{ShowsRefusal};
 
 use keyword_makers::value_in;
-use regex_matcher::is_readable;
+use pattern_matcher::is_readable;
 use schema_drafts::BuiltinKeyword;
 use schema_reports::{Instance, OutOfMemory};
 use schema_traits::KeywordOrigin;
@@ -21,7 +21,7 @@ use std::alloc::Global;
 
 /// What happens to a schema with a pattern that cannot be read.
 ///
-/// A pattern is the value of `pattern`, or a name under `patternProperties`. `regex_matcher`
+/// A pattern is the value of `pattern`, or a name under `patternProperties`. `pattern_matcher`
 /// decides whether it can be read as a regular expression.
 #[derive(Clone, Copy)]
 pub enum UnreadablePatterns {
