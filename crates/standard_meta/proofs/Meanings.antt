@@ -9,7 +9,7 @@ use Rattle.theory_definitions.specs.Keywords.{Answer}
 use Rattle.schema_traits.specs.declared.keyword.Validate.{Ghosts as KeywordMembers}
 use Rattle.schema_traits.specs.declared.resolver.Resolver.{Ghosts as ResolverMembers}
 use Rattle.schema_traits.specs.declared.table.KeywordTable.{Ghosts as TableMembers}
-use Rattle.regex_matcher.specs.RegexMatching.{Kept}
+use Rattle.pattern_matcher.specs.declared.treatment.Treatment.{Treatment}
 use Rattle.schema_keys.specs.Checking.{MetaChecks}
 use Rattle.schema_validator.specs.BuildResults.{IsBuilt}
 use Rattle.schema_validator.specs.Called.{IsCompiledFrom, MeansPlainly}
@@ -22,17 +22,17 @@ use Rattle.meta_schemas.specs.MetaUris.{uri_of}
 use Rattle.standard_meta.specs.DraftMeanings.{IsCompiledOf, MeansDraft, handed_by, regexes, unchecked}
 
 module _ {State S C Maker Run K : Type 0} (resolvers : ResolverMembers HeldDocuments State S) (tables : TableMembers StandardTable C Maker Run K)
-    (keywords : KeywordMembers C Run K) (r : HeldDocuments) (m : Kept) (table : StandardTable) (options : Options) (schema : Data)
+    (keywords : KeywordMembers C Run K) (r : HeldDocuments) (m : Treatment) (table : StandardTable) (options : Options) (schema : Data)
   where
     -- the parts of a build with a table
-    abbrev parts : StandardTable → Handed S K (Run × Answer) C Kept
+    abbrev parts : StandardTable → Handed S K (Run × Answer) C Treatment
     parts t = handed resolvers tables keywords regexes r t m
 
     -- the table refuses unreadable patterns
     same_parts : table.unreadable ≡ unreadable.Refused → parts table ≡ handed_by resolvers tables keywords r m
     same_parts refuses = ap (λ u. parts (record { unreadable = u })) refuses
 
-    pub compiled_by : {E : Type 0} (x : Result (Program C Kept) E) → table.unreadable ≡ unreadable.Refused → options ≡ unchecked
+    pub compiled_by : {E : Type 0} (x : Result (Program C Treatment) E) → table.unreadable ≡ unreadable.Refused → options ≡ unchecked
         → (checks : MetaChecks) → IfOk x (λ p. IsBuilt (parts table) checks options schema options.nested p)
         → IfOk x (λ p. IsCompiledOf resolvers tables keywords r m schema p)
     compiled_by (Ok p) refuses off checks built = record {
@@ -48,8 +48,8 @@ among_documents : (documents : List GivenDocument) (k : ℕ) (d : GivenDocument)
 among_documents documents k d at = (k, slice_get_within documents k d at, get_or_from_slice_get documents k d d at)
 
 module _ {State S C Maker Run K : Type 0} (resolvers : ResolverMembers HeldDocuments State S) (tables : TableMembers StandardTable C Maker Run K)
-    (keywords : KeywordMembers C Run K) (documents : List GivenDocument) (draft : Draft) (r : HeldDocuments) (m : Kept) (root : GivenDocument) where
-  pub means_draft : (k : ℕ) (v p : Program C Kept) → slice_get documents k ≡ Some root → root.uri ≡ uri_of draft → r.uri ≡ root.uri → r.document ≡ root.value
+    (keywords : KeywordMembers C Run K) (documents : List GivenDocument) (draft : Draft) (r : HeldDocuments) (m : Treatment) (root : GivenDocument) where
+  pub means_draft : (k : ℕ) (v p : Program C Treatment) → slice_get documents k ≡ Some root → root.uri ≡ uri_of draft → r.uri ≡ root.uri → r.document ≡ root.value
       → IsCompiledOf resolvers tables keywords r m (view root.value) v → p ≡ v → MeansDraft resolvers tables keywords documents draft p
   means_draft k v p at uri same_uri same_document compiled same = record {
     resolver = r;

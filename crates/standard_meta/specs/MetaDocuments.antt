@@ -7,11 +7,12 @@ use Rattle.theory_definitions.specs.Drafts.{Draft, draft_2019_09, draft_2020_12,
 use Rattle.theory_definitions.specs.Instance.{Text}
 use Rattle.standard_resolver.specs.ResolverDocuments.{GivenDocument}
 use Rattle.meta_schemas.specs.MetaUris.{uri_of, vocabulary_uris}
+use Rattle.pattern_matcher.specs.declared.treatment.Treatment.{Treatment}
 use Rattle.standard_meta.specs.declared.documents.MetaDocument.{MetaDocument}
 
 pub record MetaSchemas : Type 0 where
   pub documents : List GivenDocument
-  pub patterns : List Text
+  pub matcher : Treatment
 
 abbrev pub given_of : MetaDocument → GivenDocument
 given_of d = record { uri = d.uri.now; value = d.value }

@@ -8,8 +8,9 @@ ghost use Rattle.standard_meta.specs.MetaDocuments.{draft_uris, given_of, place_
 
 use crate::error::MetaError;
 use meta_schemas::{MetaSchema, meta_schema, vocabulary_meta_schemas};
-use regex_matcher::Patterns;
+use pattern_matcher::{PatternMatcher, Patterns, Treatment, Unreadable};
 use schema_engine::Draft;
+use schema_reports::OutOfMemory;
 use serde_json::Value;
 use std::alloc::Global;
 use std::marker::Model;
@@ -21,11 +22,11 @@ pub struct MetaDocument {
     pub value: Value,
 }
 
-/// The meta-schemas of drafts and vocabularies, and their compiled patterns.
+/// The meta-schemas of drafts and vocabularies, and a matcher that has their patterns.
 #[derive(Drop)]
 pub struct MetaDocuments {
     documents: Vec<MetaDocument>,
-    patterns: Patterns,
+    matcher: PatternMatcher,
 }
 
 impl Model for MetaDocuments {
@@ -38,7 +39,7 @@ impl Model for MetaDocuments {
 
     ghost coded = { Prim.hlevel (codes, value.the_row.coded) };
 
-    ghost view = { λ m. record { documents = map given_of m.documents.items; patterns = m.patterns } };
+    ghost view = { λ m. record { documents = map given_of m.documents.items; matcher = m.matcher } };
 
     ghost invariant = { λ m. uris_of (map given_of m.documents.items) ≡ meta_uris };
 }
@@ -86,28 +87,30 @@ fn read_all(alloc: Global) -> Result<Vec<MetaDocument>, MetaError>
     Ok(documents)
 }
 
-fn patterns_of(alloc: Global, documents: &[MetaDocument]) -> Result<Patterns, MetaError> {
+// Makes the matcher of the meta-schemas. It finishes every match.
+fn matcher_of(alloc: Global, documents: &[MetaDocument]) -> Result<PatternMatcher, OutOfMemory> {
     let mut values = Vec::new(alloc);
     for document in documents {
         values.push(&document.value)?;
     }
-    Ok(Patterns::for_schemas(alloc, values.as_slice())?)
+    let patterns = Patterns::for_schemas(alloc, values.as_slice())?;
+    let treatment = Treatment {
+        unreadable: Unreadable::MatchesNothing,
+        limit: None,
+    };
+    PatternMatcher::with_treatment(alloc, patterns, treatment)
 }
 
 impl MetaDocuments {
-    /// Reads the meta-schemas, and compiles their patterns.
+    /// Reads the meta-schemas and their patterns.
     ///
     /// # Errors
     ///
-    /// Out of memory. The other errors do not occur: each meta-schema is JSON, and no pattern is
-    /// too big.
+    /// Out of memory. The other errors do not occur: each meta-schema is JSON.
     pub fn new(alloc: Global) -> Result<MetaDocuments, MetaError> {
         let documents = read_all(alloc)?;
-        let patterns = patterns_of(alloc, documents.as_slice())?;
-        Ok(MetaDocuments {
-            documents,
-            patterns,
-        })
+        let matcher = matcher_of(alloc, documents.as_slice())?;
+        Ok(MetaDocuments { documents, matcher })
     }
 
     /// Returns the meta-schemas.
@@ -119,11 +122,11 @@ impl MetaDocuments {
         self.documents.as_slice()
     }
 
-    /// Returns the patterns of the meta-schemas.
-    pub fn patterns(&self) -> &Patterns
-        ensures patterns { result.now ≡ self.now.patterns }
+    /// Returns the matcher that has the patterns of the meta-schemas.
+    pub fn matcher(&self) -> &PatternMatcher
+        ensures matcher { result.now ≡ self.now.matcher }
     {
-        &self.patterns
+        &self.matcher
     }
 
     /// Returns the meta-schema of a draft.

@@ -1,7 +1,6 @@
 //! The error of making the meta validators.
 ghost use Rattle.std.specs.Prelude.{◌≡◌};
 
-use regex_matcher::PatternError;
 use schema_engine::BuildError;
 use std::alloc::{AllocError, AllocFailed};
 use std::error::Error;
@@ -12,8 +11,6 @@ use std::fmt;
 pub enum MetaError {
     /// A document is not JSON.
     Unread(serde_json::Error),
-    /// A pattern of a document is readable but too big to compile.
-    Pattern(PatternError),
     /// A meta-schema is refused.
     Refused(BuildError),
     /// The meta-schema under this URI cannot check schemas.
@@ -50,12 +47,6 @@ impl From<serde_json::Error> for MetaError {
     }
 }
 
-impl From<PatternError> for MetaError {
-    fn from(error: PatternError) -> MetaError {
-        MetaError::Pattern(error)
-    }
-}
-
 impl From<BuildError> for MetaError {
     fn from(error: BuildError) -> MetaError {
         MetaError::Refused(error)
@@ -66,7 +57,6 @@ impl fmt::Display for MetaError {
     fn fmt<W: fmt::Write>(&self, f: &mut fmt::Formatter<W>) -> fmt::Result {
         match self {
             MetaError::Unread(error) => write!(f, "a meta-schema is not JSON: {error}"),
-            MetaError::Pattern(error) => write!(f, "a meta-schema's pattern: {error}"),
             MetaError::Refused(error) => write!(f, "a meta-schema is refused: {error}"),
             MetaError::Unfit(uri) => write!(f, "the meta-schema '{uri}' cannot check schemas"),
             MetaError::OutOfMemory => write!(f, "out of memory"),

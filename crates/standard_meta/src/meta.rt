@@ -4,7 +4,7 @@ ghost use Rattle.serde_json.specs.View.{view};
 ghost use Rattle.meta_checker.specs.DraftChecks.{EachChecks};
 ghost use Rattle.standard_meta.specs.DraftMeanings.{IsCompiledOf, MeansDraft};
 ghost use Rattle.schema_traits.specs.MatcherViews.{FinishesEach};
-ghost use Rattle.regex_matcher.specs.RegexMatching.{regex_matcher};
+ghost use Rattle.pattern_matcher.specs.PatternMatching.{pattern_matcher};
 ghost use Rattle.schema_drafts.specs.KeywordViews.{draft_of};
 
 use crate::documents::{MetaDocument, MetaDocuments};
@@ -12,7 +12,7 @@ use crate::error::MetaError;
 use crate::no_meta::NoMeta;
 use crate::wholeness::StandardFractions;
 use meta_checker::{Checker, CheckerMaker, DraftCheckers};
-use regex_matcher::{RegexMatcher, Unreadable};
+use pattern_matcher::PatternMatcher;
 use schema_engine::{
     BuildError, Draft, KeywordTable, MetaValidators, Resolver, Validate, ValidationOptions,
     Validator, VocabularySet,
@@ -23,7 +23,7 @@ use standard_keywords::{StandardKeyword, StandardTable};
 use standard_resolver::{Document, DocumentResolver, Rule};
 use std::alloc::Global;
 
-type StandardChecker<'p> = Checker<StandardKeyword, RegexMatcher<'p>>;
+type StandardChecker = Checker<StandardKeyword, PatternMatcher>;
 
 /// Returns all documents except the one with a URI.
 fn others<'d>(
@@ -67,10 +67,10 @@ fn validator_of<'p>(
     alloc: Global,
     root: &'p MetaDocument,
     resolver: &DocumentResolver<'p>,
-    matcher: &RegexMatcher<'p>,
-) -> Result<Validator<StandardKeyword, RegexMatcher<'p>>, BuildError>
-    ensures finishes { IfOk result (λ v. FinishesEach (regex_matcher matcher.now.unreadable)
-        → FinishesEach (regex_matcher v.matcher.unreadable)) }
+    matcher: &PatternMatcher,
+) -> Result<Validator<StandardKeyword, PatternMatcher>, BuildError>
+    ensures finishes { IfOk result (λ v. FinishesEach (pattern_matcher matcher.now)
+        → FinishesEach (pattern_matcher v.matcher)) }
     ensures compiled { IfOk result (IsCompiledOf ⟦<DocumentResolver<'p> as Resolver>⟧ ⟦<StandardTable as KeywordTable<StandardKeyword>>⟧
         ⟦<StandardKeyword as Validate>⟧ resolver.now matcher.now (view root.now.value)) }
 {
@@ -83,18 +83,16 @@ fn checker_of<'p>(
     alloc: Global,
     documents: &'p MetaDocuments,
     draft: Draft,
-) -> Result<StandardChecker<'p>, MetaError>
+) -> Result<StandardChecker, MetaError>
     ensures means { IfOk result (MeansDraft ⟦<DocumentResolver<'p> as Resolver>⟧ ⟦<StandardTable as KeywordTable<StandardKeyword>>⟧
         ⟦<StandardKeyword as Validate>⟧ documents.now.documents (draft_of draft)) }
 {
     let root = documents.of_draft(draft);
-    let patterns = documents.patterns();
-    let matcher = RegexMatcher::with_unreadable(alloc, patterns, Unreadable::MatchesNothing)?;
+    let matcher = documents.matcher();
     let resolver = resolver_of(alloc, documents, draft, root)?;
-    let validator = validator_of(alloc, root, &resolver, &matcher);
+    let validator = validator_of(alloc, root, &resolver, matcher);
     drop(resolver);
-    let checker = Checker::by_matcher(&StandardFractions {}, &matcher, validator?);
-    drop(matcher);
+    let checker = Checker::by_matcher(&StandardFractions {}, matcher, validator?);
     match checker {
         Some(checker) => Ok(checker),
         None => Err(MetaError::Unfit(root.uri)),
@@ -107,13 +105,13 @@ struct MetaMaker<'p> {
     documents: &'p MetaDocuments,
 }
 
-impl<'p> CheckerMaker<StandardKeyword, RegexMatcher<'p>> for MetaMaker<'p> {
+impl<'p> CheckerMaker<StandardKeyword, PatternMatcher> for MetaMaker<'p> {
     type Error = MetaError;
 
     ghost checks = { λ m. MeansDraft ⟦<DocumentResolver<'p> as Resolver>⟧ ⟦<StandardTable as KeywordTable<StandardKeyword>>⟧
         ⟦<StandardKeyword as Validate>⟧ m.documents.now.documents };
 
-    fn checker(&self, alloc: Global, draft: Draft) -> Result<StandardChecker<'p>, MetaError> {
+    fn checker(&self, alloc: Global, draft: Draft) -> Result<StandardChecker, MetaError> {
         checker_of(alloc, self.documents, draft)
     }
 }
@@ -122,18 +120,18 @@ impl<'p> CheckerMaker<StandardKeyword, RegexMatcher<'p>> for MetaMaker<'p> {
 ///
 /// Each meta-schema is compiled once. An unknown draft has that of 2020-12.
 #[derive(Drop)]
-pub struct StandardMeta<'p> {
+pub struct StandardMeta {
     /// The checker of each draft.
-    pub checkers: DraftCheckers<StandardKeyword, RegexMatcher<'p>>,
+    pub checkers: DraftCheckers<StandardKeyword, PatternMatcher>,
 }
 
-impl<'p> StandardMeta<'p> {
+impl StandardMeta {
     /// Compiles the meta-schemas of all drafts.
     ///
     /// # Errors
     ///
     /// Out of memory. The other errors do not occur: no meta-schema is refused or unfit.
-    pub fn new(alloc: Global, documents: &'p MetaDocuments) -> Result<StandardMeta<'p>, MetaError>
+    pub fn new<'p>(alloc: Global, documents: &'p MetaDocuments) -> Result<StandardMeta, MetaError>
         ensures each { IfOk result (λ m. EachChecks (MeansDraft
             ⟦<DocumentResolver<'p> as Resolver>⟧ ⟦<StandardTable as KeywordTable<StandardKeyword>>⟧ ⟦<StandardKeyword as Validate>⟧
             documents.now.documents) m.checkers) }
@@ -143,7 +141,7 @@ impl<'p> StandardMeta<'p> {
     }
 }
 
-impl<'p> MetaValidators for StandardMeta<'p> {
+impl MetaValidators for StandardMeta {
     ghost use Rattle.meta_checker.specs.DraftChecks.{checked_by};
     ghost use Rattle.standard_meta.specs.DraftMeanings.{regexes};
 
