@@ -1,15 +1,15 @@
 -- What a build promises of its validator: the clauses of `ValidationOptions::build` in one record,
--- over a resolver and a list of patterns; and then over sources, with a resolver that holds their
--- documents. The table is the standard's, and the matcher has the patterns. (Core 2020-12, 8.2)
-use Rattle.std.specs.Prelude.{List}
+-- over a resolver and a matcher; and then over sources, with a resolver that holds their documents
+-- and the matcher of their patterns. The table is the standard's. (Core 2020-12, 8.2)
 use Rattle.serde_json.specs.Data.{Data}
 use Rattle.serde_json.specs.View.{view}
-use Rattle.theory_definitions.specs.Instance.{Text}
 use Rattle.theory_definitions.specs.Keywords.{Answer}
 use Rattle.schema_traits.specs.declared.keyword.Validate.{Ghosts as KeywordMembers}
 use Rattle.schema_traits.specs.declared.resolver.Resolver.{Ghosts as ResolverMembers}
 use Rattle.schema_traits.specs.declared.table.KeywordTable.{Ghosts as TableMembers}
-use Rattle.regex_matcher.specs.RegexMatching.{Kept, careful}
+use Rattle.pattern_matcher.specs.PatternMatching.{careful}
+use Rattle.pattern_matcher.specs.SchemaPatterns.{patterns_of}
+use Rattle.pattern_matcher.specs.declared.treatment.Treatment.{Treatment}
 use Rattle.schema_keys.specs.Checking.{MetaChecks}
 use Rattle.schema_keys.specs.declared.error.BuildError.{BuildError}
 use Rattle.schema_validator.specs.BuildResults as results
@@ -18,37 +18,38 @@ use Rattle.schema_compiled.specs.Program.{Program}
 use Rattle.standard_resolver.specs.ResolverDocuments.{HeldDocuments}
 use Rattle.standard_keywords.specs.declared.table.StandardTable.{StandardTable}
 use Rattle.standard_meta.specs.DraftMeanings.{handed_by}
-use Rattle.jsonschema.specs.Sources.{IsResolverOf, SchemaSources, options_by}
+use Rattle.jsonschema.specs.Sources.{IsResolverOf, SchemaSources, options_by, values_of}
 
--- the matcher with these patterns; it leaves a match unfinished if its pattern cannot be read
-abbrev pub careful_matcher : List Text → Kept
-careful_matcher patterns = record { unreadable = careful patterns; patterns = patterns }
+-- the matcher of the sources' patterns; it leaves a match unfinished if its pattern cannot be read,
+-- or if it has a back reference and takes too many steps
+abbrev pub matcher_of : SchemaSources → Treatment
+matcher_of s = careful (patterns_of (values_of s))
 
 module _ {State S C Maker Run K : Type 0} (resolvers : ResolverMembers HeldDocuments State S) (tables : TableMembers StandardTable C Maker Run K)
     (keywords : KeywordMembers C Run K) where
-  -- the parts of a build with this resolver and these patterns
-  abbrev pub parts_by : HeldDocuments → List Text → Handed S K (Run × Answer) C Kept
-  parts_by r patterns = handed_by resolvers tables keywords r (careful_matcher patterns)
+  -- the parts of a build with this resolver and this matcher
+  abbrev pub parts_by : HeldDocuments → Treatment → Handed S K (Run × Answer) C Treatment
+  parts_by r m = handed_by resolvers tables keywords r m
 
-  module _ (r : HeldDocuments) (patterns : List Text) (refuses : MetaChecks) (options : Options) (schema : Data) where
+  module _ (r : HeldDocuments) (m : Treatment) (refuses : MetaChecks) (options : Options) (schema : Data) where
     -- the program is that of a validator built from a schema that the resolver holds
-    pub record IsBuilt (p : Program C Kept) : Type 0 where
-      pub built : results.IsBuilt (parts_by r patterns) refuses options schema options.nested p
+    pub record IsBuilt (p : Program C Treatment) : Type 0 where
+      pub built : results.IsBuilt (parts_by r m) refuses options schema options.nested p
 
     -- the error names a cause that holds, and the first one if there are several
     pub record IsRefused (e : BuildError) : Type 0 where
-      pub refused : results.IsRefused (parts_by r patterns) refuses options schema e
+      pub refused : results.IsRefused (parts_by r m) refuses options schema e
 
-  module _ (refuses : MetaChecks) (options : Options) (s : SchemaSources) (patterns : List Text) where
+  module _ (refuses : MetaChecks) (options : Options) (s : SchemaSources) where
     -- the validator is built from the schema of the sources, by a resolver that holds their
     -- documents, with their draft and URI among the options
-    pub record IsBuiltOf (p : Program C Kept) : Type 0 where
+    pub record IsBuiltOf (p : Program C Treatment) : Type 0 where
       pub resolver : HeldDocuments
       pub resolves : IsResolverOf s resolver
-      pub built : IsBuilt resolver patterns refuses (options_by s options) (view s.schema) p
+      pub built : IsBuilt resolver (matcher_of s) refuses (options_by s options) (view s.schema) p
 
     -- the error refuses such a build
     pub record IsRefusedOf (e : BuildError) : Type 0 where
       pub resolver : HeldDocuments
       pub resolves : IsResolverOf s resolver
-      pub refused : IsRefused resolver patterns refuses (options_by s options) (view s.schema) e
+      pub refused : IsRefused resolver (matcher_of s) refuses (options_by s options) (view s.schema) e

@@ -4,12 +4,12 @@ ghost use Rattle.serde_json.specs.View.{view};
 ghost use Rattle.standard_subschemas.specs.declared.rules.Rule.TheVariants.{Standard};
 ghost use Rattle.schema_keys.specs.declared.error.BuildError.TheVariants.{OutOfMemory};
 ghost use Rattle.schema_traits.specs.Showing.{Yields};
-ghost use Rattle.jsonschema.specs.Built.{IsBuilt, IsBuiltOf, IsRefused, IsRefusedOf};
+ghost use Rattle.jsonschema.specs.Built.{IsBuilt, IsBuiltOf, IsRefused, IsRefusedOf, matcher_of};
 ghost use Rattle.jsonschema.specs.Sources.{default_draft_of, options_by, uri_of};
 ghost use Rattle.standard_resolver.specs.ResolverHolds.{Customs, Defaults, Drafts, GoesBy, Holds, IsUnder, Others};
 
 use crate::sources::Sources;
-use regex_matcher::{Patterns, RegexMatcher};
+use pattern_matcher::PatternMatcher;
 use schema_engine::{
     BuildError, Draft, KeywordTable, MetaValidators, OutOfMemory, Resolver, Validate,
     ValidationOptions, Validator, VocabularySet,
@@ -19,8 +19,8 @@ use standard_keywords::{StandardKeyword, StandardTable};
 use standard_resolver::{Document, DocumentResolver, Rule};
 use std::alloc::Global;
 
-/// A validator with the standard's keywords; it borrows its schema's patterns.
-pub type StandardValidator<'p> = Validator<StandardKeyword, RegexMatcher<'p>>;
+/// A validator with the standard's keywords and regular expressions.
+pub type StandardValidator = Validator<StandardKeyword, PatternMatcher>;
 
 /// Returns the schema's URI: the one that is set, or else `json-schema:///`.
 fn uri_of<'s>(sources: &'s Sources<'_>) -> &'s str
@@ -76,30 +76,37 @@ fn resolver_of<'a>(alloc: Global, sources: Sources<'a>) -> Result<DocumentResolv
     )
 }
 
+/// The matcher of the patterns of the schema and the documents.
+fn matcher_of(alloc: Global, sources: &Sources<'_>) -> Result<PatternMatcher, OutOfMemory>
+    ensures matcher { Yields result (matcher_of sources.now) }
+{
+    let values = sources.values(alloc)?;
+    PatternMatcher::for_schemas(alloc, values.as_slice())
+}
+
 /// Builds a validator of a schema that the resolver holds.
 fn build_by<'p, V: MetaValidators>(
     alloc: Global,
     schema: &Value,
-    resolver: &DocumentResolver<'_>,
-    patterns: &'p Patterns,
+    resolver: &DocumentResolver<'p>,
+    matcher: &PatternMatcher,
     metas: &V,
     options: &ValidationOptions,
-) -> Result<StandardValidator<'p>, BuildError>
+) -> Result<StandardValidator, BuildError>
     ensures built { IfOk result (IsBuilt ⟦<DocumentResolver<'p> as Resolver>⟧ ⟦<StandardTable as KeywordTable<StandardKeyword>>⟧
-        ⟦<StandardKeyword as Validate>⟧ resolver.now patterns.now (V.checked metas.now) options.now (view schema.now)) }
+        ⟦<StandardKeyword as Validate>⟧ resolver.now matcher.now (V.checked metas.now) options.now (view schema.now)) }
     ensures refused { IfErr result (λ e. (e ≡ OutOfMemory) ⊎ IsRefused ⟦<DocumentResolver<'p> as Resolver>⟧
-        ⟦<StandardTable as KeywordTable<StandardKeyword>>⟧ ⟦<StandardKeyword as Validate>⟧ resolver.now patterns.now (V.checked metas.now)
+        ⟦<StandardTable as KeywordTable<StandardKeyword>>⟧ ⟦<StandardKeyword as Validate>⟧ resolver.now matcher.now (V.checked metas.now)
         options.now (view schema.now) e) }
 {
-    let matcher = RegexMatcher::new(alloc, patterns)?;
     let table = StandardTable::new();
-    options.build(alloc, schema, &table, resolver, &matcher, metas)
+    options.build(alloc, schema, &table, resolver, matcher, metas)
 }
 
 /// Builds a validator of a schema, with the standard's keywords.
 ///
-/// The patterns are those of the sources (`Sources::patterns`). The meta validators check the
-/// schema first, unless the options turn that off.
+/// Each pattern of the sources is read once. The meta validators check the schema first, unless the
+/// options turn that off.
 ///
 /// # Errors
 ///
@@ -107,19 +114,19 @@ fn build_by<'p, V: MetaValidators>(
 /// reached than the limit allows; or out of memory.
 pub fn build<'p, V: MetaValidators>(
     alloc: Global,
-    sources: Sources<'_>,
-    patterns: &'p Patterns,
+    sources: Sources<'p>,
     metas: &V,
     options: ValidationOptions,
-) -> Result<StandardValidator<'p>, BuildError>
+) -> Result<StandardValidator, BuildError>
     ensures built { IfOk result (IsBuiltOf ⟦<DocumentResolver<'p> as Resolver>⟧ ⟦<StandardTable as KeywordTable<StandardKeyword>>⟧
-        ⟦<StandardKeyword as Validate>⟧ (V.checked metas.now) options sources.entry patterns.now) }
+        ⟦<StandardKeyword as Validate>⟧ (V.checked metas.now) options sources.entry) }
     ensures refused { IfErr result (λ e. (e ≡ OutOfMemory) ⊎ IsRefusedOf ⟦<DocumentResolver<'p> as Resolver>⟧
         ⟦<StandardTable as KeywordTable<StandardKeyword>>⟧ ⟦<StandardKeyword as Validate>⟧ (V.checked metas.now)
-        options sources.entry patterns.now e) }
+        options sources.entry e) }
 {
     let schema = sources.schema;
+    let matcher = matcher_of(alloc, &sources)?;
     let options = options_for(alloc, options, &sources)?;
     let resolver = resolver_of(alloc, sources)?;
-    build_by(alloc, schema, &resolver, patterns, metas, &options)
+    build_by(alloc, schema, &resolver, &matcher, metas, &options)
 }

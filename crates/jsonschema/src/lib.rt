@@ -8,7 +8,6 @@ mod building;
 mod sources;
 
 pub use building::{StandardValidator, build};
-pub use regex_matcher::{PatternError, Patterns};
 pub use schema_engine::{BuildError, Draft, ValidationOptions};
 pub use sources::Sources;
 pub use standard_meta::{MetaDocuments, MetaError, StandardMeta};

@@ -1,13 +1,11 @@
 //! The schema and the documents that a validator is built from.
-ghost use Rattle.std.specs.Prelude.{◌≡◌, ◌++◌, ◌∷◌, [], IfErr, IfOk, None, Some, map, OnOk};
+ghost use Rattle.std.specs.Prelude.{◌≡◌, ◌++◌, ◌∷◌, [], IfOk, None, Some, map, OnOk};
 ghost use Rattle.schema_drafts.specs.KeywordViews.{draft_of};
 ghost use Rattle.standard_resolver.specs.DocumentViews.{given_of};
-ghost use Rattle.regex_matcher.specs.SchemaPatterns.{IsAdded, IsFaultOf, patterns_of};
 ghost use Rattle.serde_json.specs.View.{view};
 ghost use Rattle.schema_traits.specs.Showing.{Yields};
 ghost use Rattle.jsonschema.specs.Sources.{values_of, with_documents};
 
-use regex_matcher::{PatternError, Patterns};
 use schema_engine::{Draft, OutOfMemory};
 use serde_json::Value;
 use standard_meta::MetaDocuments;
@@ -141,7 +139,7 @@ impl<'a> Sources<'a> {
     }
 
     // Returns the values of the schema and of the documents, the schema's first.
-    fn values(&self, alloc: Global) -> Result<Vec<&'a Value>, OutOfMemory>
+    pub(crate) fn values(&self, alloc: Global) -> Result<Vec<&'a Value>, OutOfMemory>
         ensures values { IfOk result (λ vs. map (λ v. view v.now) vs.items ≡ values_of self.now) }
     {
         let mut values = Vec::new(alloc);
@@ -150,20 +148,5 @@ impl<'a> Sources<'a> {
             values.push(document.value)?;
         }
         Ok(values)
-    }
-
-    /// Compiles the patterns of the schema and of the documents, each once.
-    ///
-    /// A validator borrows them.
-    ///
-    /// # Errors
-    ///
-    /// Out of memory, or a pattern that can be read is too big to compile.
-    pub fn patterns(&self, alloc: Global) -> Result<Patterns, PatternError>
-        ensures patterns { IfOk result (IsAdded [] (patterns_of (values_of self.now))) }
-        ensures fault { IfErr result (IsFaultOf (patterns_of (values_of self.now))) }
-    {
-        let values = self.values(alloc)?;
-        Patterns::for_schemas(alloc, values.as_slice())
     }
 }

@@ -19,7 +19,7 @@ returns-clause-built g c =
     } in
     let same = ap (λ (s : SchemaSources). view s.schema) c.sources.view_is in
     IfOk-weaker c.build_by.result _ _ (built_of _ _ _ (g.V.MetaValidators.checked c.args.metas.now) c.args.options c.args.sources
-    c.args.patterns.now _ _ _ is c.in_ok-options.ensures.options same) c.build_by.ensures.built
+    _ _ _ _ is c.in_ok-matcher.ensures.matcher c.in_ok-options.ensures.options same) c.build_by.ensures.built
 
 pub returns-clause-refused : goal.returns-clause-refused
 returns-clause-refused g c =
@@ -35,4 +35,4 @@ returns-clause-refused g c =
     } in
     let same = ap (λ (s : SchemaSources). view s.schema) c.sources.view_is in
     IfErr-weaker c.build_by.result _ _ (refused_of _ _ _ (g.V.MetaValidators.checked c.args.metas.now) c.args.options c.args.sources
-    c.args.patterns.now _ _ _ is c.in_ok-options.ensures.options same) c.build_by.ensures.refused
+    _ _ _ _ is c.in_ok-matcher.ensures.matcher c.in_ok-options.ensures.options same) c.build_by.ensures.refused
