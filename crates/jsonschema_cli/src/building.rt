@@ -3,8 +3,7 @@
 use crate::validating::Validating;
 use command_line::{Desk, Document, Engine, Options, Outcome, Stop, answer_by, tell};
 use jsonschema::{
-    BuildError, MetaDocuments, MetaError, PatternError, Patterns, Sources, StandardMeta,
-    ValidationOptions, build,
+    BuildError, MetaDocuments, MetaError, Sources, StandardMeta, ValidationOptions, build,
 };
 use schema_engine::{Draft, OutOfMemory};
 use serde_json::Value;
@@ -96,20 +95,6 @@ fn refuse(rt: &HostRuntime, options: &Options<'_>, refused: &BuildError) -> Stop
     }
 }
 
-/// Reports which pattern is too big.
-fn refuse_pattern(rt: &HostRuntime, options: &Options<'_>, fault: &PatternError) -> Stop {
-    match fault {
-        PatternError::OutOfMemory => Stop::OutOfMemory,
-        PatternError::TooBig(_) => tell(
-            rt,
-            options.schema,
-            "is refused",
-            fault,
-            "write the pattern with fewer or smaller repetitions",
-        ),
-    }
-}
-
 /// Reports why the meta-schemas are not available.
 fn refuse_metas(rt: &HostRuntime, fault: &MetaError) -> Stop {
     match fault {
@@ -124,16 +109,15 @@ fn refuse_metas(rt: &HostRuntime, fault: &MetaError) -> Stop {
     }
 }
 
-fn answer_built(
+fn answer_by_sources(
     rt: &HostRuntime,
     desk: &mut Desk,
     options: &Options<'_>,
     sources: Sources<'_>,
-    patterns: &Patterns,
-    metas: &StandardMeta<'_>,
+    metas: &StandardMeta,
 ) -> Result<Outcome, Stop> {
     let chosen = engine_options(rt.alloc(), options);
-    match build(rt.alloc(), sources, patterns, metas, chosen) {
+    match build(rt.alloc(), sources, metas, chosen) {
         Ok(validator) => {
             let asked = Validating {
                 validator: &validator,
@@ -143,23 +127,6 @@ fn answer_built(
             answered
         }
         Err(refused) => Err(refuse(rt, options, &refused)),
-    }
-}
-
-fn answer_by_sources(
-    rt: &HostRuntime,
-    desk: &mut Desk,
-    options: &Options<'_>,
-    sources: Sources<'_>,
-    metas: &StandardMeta<'_>,
-) -> Result<Outcome, Stop> {
-    match sources.patterns(rt.alloc()) {
-        Ok(patterns) => {
-            let answered = answer_built(rt, desk, options, sources, &patterns, metas);
-            drop(patterns);
-            answered
-        }
-        Err(fault) => Err(refuse_pattern(rt, options, &fault)),
     }
 }
 

@@ -11,11 +11,11 @@ use std::alloc::Global;
 
 /// Answers for instances with this validator.
 #[derive(Clone, Copy)]
-pub(crate) struct Validating<'v, 'p> {
-    pub(crate) validator: &'v StandardValidator<'p>,
+pub(crate) struct Validating<'v> {
+    pub(crate) validator: &'v StandardValidator,
 }
 
-impl Validating<'_, '_> {
+impl Validating<'_> {
     /// Returns all errors of an instance, as text.
     fn errors(&self, alloc: Global, paint: Paint, file: &str, instance: &Value) -> Answer
         ensures answered { IfOk result (λ a. code_of a.0 ≤ 1) }
@@ -71,7 +71,7 @@ impl Validating<'_, '_> {
     }
 }
 
-impl Answerer for Validating<'_, '_> {
+impl Answerer for Validating<'_> {
     fn answer(
         &self,
         alloc: Global,
