@@ -2,8 +2,7 @@
 
 use bowtie_protocol::{Case, Engine, Judge};
 use jsonschema::{
-    BuildError, MetaDocuments, PatternError, Patterns, Sources, StandardMeta, StandardValidator,
-    ValidationOptions, build,
+    BuildError, MetaDocuments, Sources, StandardMeta, StandardValidator, ValidationOptions, build,
 };
 use schema_engine::{Draft, OutOfMemory};
 use serde_json::Value;
@@ -11,18 +10,18 @@ use std::alloc::Global;
 
 /// The meta-schemas, and the check against them.
 #[derive(Clone, Copy)]
-pub(crate) struct Harness<'h, 'm> {
+pub(crate) struct Harness<'h> {
     pub documents: &'h MetaDocuments,
-    pub metas: &'h StandardMeta<'m>,
+    pub metas: &'h StandardMeta,
 }
 
 /// The validator of a case.
 #[derive(Clone, Copy)]
-struct Asked<'v, 'p> {
-    validator: &'v StandardValidator<'p>,
+struct Asked<'v> {
+    validator: &'v StandardValidator,
 }
 
-impl Judge for Asked<'_, '_> {
+impl Judge for Asked<'_> {
     fn accepts(&self, alloc: Global, instance: &Value) -> Result<bool, OutOfMemory> {
         self.validator.is_valid(alloc, instance)
     }
@@ -62,34 +61,14 @@ fn refuse(alloc: Global, case: Case<'_>, refused: &BuildError) -> Result<Value, 
     case.fault(alloc, text.as_str())
 }
 
-/// Answers a case with a pattern that cannot be compiled.
-fn refuse_pattern(
+fn answer_by_sources(
     alloc: Global,
+    metas: &StandardMeta,
     case: Case<'_>,
-    error: &PatternError,
-) -> Result<Value, OutOfMemory> {
-    let text = format!(in alloc; "{error}")?;
-    case.fault(alloc, text.as_str())
-}
-
-fn built<'p>(
-    alloc: Global,
-    metas: &StandardMeta<'_>,
     sources: Sources<'_>,
-    patterns: &'p Patterns,
-) -> Result<StandardValidator<'p>, BuildError> {
+) -> Result<Value, OutOfMemory> {
     let options = ValidationOptions::new(alloc);
-    build(alloc, sources, patterns, metas, options)
-}
-
-fn answer_by_patterns(
-    alloc: Global,
-    metas: &StandardMeta<'_>,
-    case: Case<'_>,
-    sources: Sources<'_>,
-    patterns: &Patterns,
-) -> Result<Value, OutOfMemory> {
-    match built(alloc, metas, sources, patterns) {
+    match build(alloc, sources, metas, options) {
         Ok(validator) => {
             let asked = Asked {
                 validator: &validator,
@@ -106,28 +85,7 @@ fn answer_by_patterns(
     }
 }
 
-fn answer_by_sources(
-    alloc: Global,
-    metas: &StandardMeta<'_>,
-    case: Case<'_>,
-    sources: Sources<'_>,
-) -> Result<Value, OutOfMemory> {
-    match sources.patterns(alloc) {
-        Ok(patterns) => {
-            let answer = answer_by_patterns(alloc, metas, case, sources, &patterns);
-            drop(patterns);
-            answer
-        }
-        Err(error) => {
-            drop(sources);
-            let answer = refuse_pattern(alloc, case, &error);
-            drop(error);
-            answer
-        }
-    }
-}
-
-impl Engine for Harness<'_, '_> {
+impl Engine for Harness<'_> {
     fn answer(&self, alloc: Global, draft: Draft, case: Case<'_>) -> Result<Value, OutOfMemory> {
         let sources = sources_of(alloc, self.documents, draft, case)?;
         answer_by_sources(alloc, self.metas, case, sources)
