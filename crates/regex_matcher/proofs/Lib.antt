@@ -1,3 +1,0 @@
-pub mod Grammar
-pub mod Tables
-pub mod Translating

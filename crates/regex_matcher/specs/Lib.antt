@@ -1,5 +1,0 @@
-pub mod CompiledViews
-pub mod Ecma
-pub mod EcmaViews
-pub mod RegexMatching
-pub mod SchemaPatterns
