@@ -7,7 +7,7 @@ use Rattle.theory_definitions.specs.Keywords.{Answer}
 use Rattle.schema_traits.specs.declared.keyword.Validate.{Ghosts as KeywordMembers}
 use Rattle.schema_traits.specs.declared.resolver.Resolver.{Ghosts as ResolverMembers}
 use Rattle.schema_traits.specs.declared.table.KeywordTable.{Ghosts as TableMembers}
-use Rattle.pattern_matcher.specs.PatternMatching.{careful}
+use Rattle.pattern_matcher.specs.PatternMatching.{readable_only}
 use Rattle.pattern_matcher.specs.SchemaPatterns.{patterns_of}
 use Rattle.pattern_matcher.specs.declared.treatment.Treatment.{Treatment}
 use Rattle.schema_keys.specs.Checking.{MetaChecks}
@@ -20,10 +20,10 @@ use Rattle.standard_keywords.specs.declared.table.StandardTable.{StandardTable}
 use Rattle.standard_meta.specs.DraftMeanings.{handed_by}
 use Rattle.jsonschema.specs.Sources.{IsResolverOf, SchemaSources, options_by, values_of}
 
--- the matcher of the sources' patterns; it leaves a match unfinished if its pattern cannot be read,
--- or if it has a back reference and takes too many steps
+-- the matcher of the sources' patterns; it leaves a match unfinished if it takes too many steps,
+-- which needs a back reference
 abbrev pub matcher_of : SchemaSources → Treatment
-matcher_of s = careful (patterns_of (values_of s))
+matcher_of s = readable_only (patterns_of (values_of s))
 
 module _ {State S C Maker Run K : Type 0} (resolvers : ResolverMembers HeldDocuments State S) (tables : TableMembers StandardTable C Maker Run K)
     (keywords : KeywordMembers C Run K) where

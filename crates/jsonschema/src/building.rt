@@ -81,7 +81,7 @@ fn matcher_of(alloc: Global, sources: &Sources<'_>) -> Result<PatternMatcher, Ou
     ensures matcher { Yields result (matcher_of sources.now) }
 {
     let values = sources.values(alloc)?;
-    PatternMatcher::for_schemas(alloc, values.as_slice())
+    PatternMatcher::for_readable_only(alloc, values.as_slice())
 }
 
 /// Builds a validator of a schema that the resolver holds.

@@ -10,7 +10,7 @@ use Rattle.std.proofs.lemmas.Slice.Eq.{bytes_eq-Decides}
 use Rattle.theory_definitions.specs.Instance.{Text}
 use Rattle.theory_definitions.specs.Matching.{engine, unfinished}
 use Rattle.pattern_reader.specs.Reading.{Reading}
-use Rattle.pattern_matcher.specs.PatternMatching.{TellsUnreadable, careful, is_unreadable, pattern_matcher, reading_match, reading_of, refers, unreadable_match}
+use Rattle.pattern_matcher.specs.PatternMatching.{TellsUnreadable, careful, is_unreadable, pattern_matcher, readable_only, reading_match, reading_of, refers, unreadable_match}
 use Rattle.pattern_matcher.specs.SchemaPatterns.{IsAdded, has}
 use Rattle.pattern_matcher.specs.declared.treatment.Treatment.{Treatment}
 use Rattle.pattern_matcher.specs.declared.treatment.Unreadable.{Unreadable}
@@ -79,6 +79,9 @@ pub same_careful : (ts us : List Text) → IsAdded [] us ts → careful ts ≡ c
 same_careful ts us h =
     ap (λ b. record { unreadable = if b then LeftUnfinished else MatchesNothing; limit = if list_any refers ts then Some 1000000 else None }) (same_tests is_unreadable ts us h)
     ∙ ap (λ b. record { unreadable = if list_any is_unreadable us then LeftUnfinished else MatchesNothing; limit = if b then Some 1000000 else None }) (same_tests refers ts us h)
+
+pub same_readable_only : (ts us : List Text) → IsAdded [] us ts → readable_only ts ≡ readable_only us
+same_readable_only ts us h = ap (λ b. record { unreadable = MatchesNothing; limit = if b then Some 1000000 else None }) (same_tests refers ts us h)
 
 -- if unreadable patterns are left unfinished, those of the list are
 pub careful_tells : (ts : List Text) (u : Treatment) → u ≡ careful ts → TellsUnreadable ts (pattern_matcher u)

@@ -95,13 +95,20 @@ finishes_each t = finishes t.unreadable t.limit
 abbrev pub first_unreadable : List Text → Option Text
 first_unreadable ts = find is_unreadable ts
 
--- matches of unreadable texts are left unfinished if the list has one, and matches with a back
--- reference take at most a million steps if the list has a pattern with one
+-- matches with a back reference take at most a million steps if the list has a pattern with one
+abbrev pub limit_for : List Text → Option ℕ
+limit_for ts = if list_any refers ts then Some 1000000 else None
+
+-- matches of unreadable texts are left unfinished if the list has one
 abbrev pub careful : List Text → Treatment
 careful ts = record {
   unreadable = if list_any is_unreadable ts then LeftUnfinished else MatchesNothing;
-  limit = if list_any refers ts then Some 1000000 else None;
+  limit = limit_for ts;
 }
+
+-- Unreadable texts match nothing: this is for a table that refuses them, so none is ever matched.
+abbrev pub readable_only : List Text → Treatment
+readable_only ts = record { unreadable = MatchesNothing; limit = limit_for ts }
 
 -- each match of an unreadable text of the list is left unfinished
 abbrev pub TellsUnreadable : List Text → Matcher → Type 0

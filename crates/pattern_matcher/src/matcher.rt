@@ -2,7 +2,7 @@
 ghost use Rattle.std.specs.Prelude.{◌≡◌, IfOk, map};
 ghost use Rattle.serde_json.specs.View.{view};
 ghost use Rattle.schema_reports.specs.Showing.{Yields};
-ghost use Rattle.pattern_matcher.specs.PatternMatching.{TellsUnreadable, careful, pattern_matcher};
+ghost use Rattle.pattern_matcher.specs.PatternMatching.{TellsUnreadable, careful, pattern_matcher, readable_only};
 ghost use Rattle.pattern_matcher.specs.SchemaPatterns.{patterns_of};
 
 use crate::patterns::Patterns;
@@ -80,6 +80,24 @@ impl PatternMatcher {
     {
         let patterns = Patterns::for_schemas(alloc, documents)?;
         PatternMatcher::new(alloc, patterns)
+    }
+
+    /// Makes a matcher for the patterns in documents, if a table refuses the unreadable ones.
+    ///
+    /// It finishes every match if no pattern has a back reference.
+    ///
+    /// # Errors
+    ///
+    /// Out of memory.
+    pub fn for_readable_only(
+        alloc: Global,
+        documents: &[&Value],
+    ) -> Result<PatternMatcher, OutOfMemory>
+        ensures readable { Yields result (readable_only (patterns_of (map (λ d. view d.now) documents.now))) }
+    {
+        let patterns = Patterns::for_schemas(alloc, documents)?;
+        let treatment = patterns.readable_only();
+        PatternMatcher::with_treatment(alloc, patterns, treatment)
     }
 }
 

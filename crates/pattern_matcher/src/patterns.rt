@@ -2,7 +2,7 @@
 ghost use Rattle.std.specs.Prelude.{◌≡◌, ◌++◌, ◌∷◌, [], IfErr, IfOk, IfSome, map, slice_get};
 ghost use Rattle.std.specs.List.{list_any};
 ghost use Rattle.serde_json.specs.View.{view};
-ghost use Rattle.pattern_matcher.specs.PatternMatching.{careful, is_unreadable, refers};
+ghost use Rattle.pattern_matcher.specs.PatternMatching.{careful, is_unreadable, limit_for, readable_only, refers};
 ghost use Rattle.pattern_matcher.specs.SchemaPatterns.{IsAdded, patterns_of};
 
 use crate::documents::patterns_of;
@@ -131,6 +131,17 @@ impl Patterns {
         false
     }
 
+    // Returns how many steps a match of a pattern with a back reference may take.
+    fn limit(&self) -> Option<u64>
+        ensures limit { result ≡ limit_for self.now }
+    {
+        if self.has_referring() {
+            Some(STEP_LIMIT)
+        } else {
+            None
+        }
+    }
+
     /// Returns the treatment that leaves a match unfinished only if a pattern asks for it.
     ///
     /// Matches of unreadable patterns are left unfinished if the table has one. A match with a back
@@ -143,11 +154,21 @@ impl Patterns {
         } else {
             Unreadable::MatchesNothing
         };
-        let limit = if self.has_referring() {
-            Some(STEP_LIMIT)
-        } else {
-            None
-        };
-        Treatment { unreadable, limit }
+        Treatment {
+            unreadable,
+            limit: self.limit(),
+        }
+    }
+
+    /// Returns the treatment for schemas whose unreadable patterns are refused.
+    ///
+    /// It is that of `treatment`, except that unreadable patterns match nothing.
+    pub fn readable_only(&self) -> Treatment
+        ensures readable { result ≡ readable_only self.now }
+    {
+        Treatment {
+            unreadable: Unreadable::MatchesNothing,
+            limit: self.limit(),
+        }
     }
 }

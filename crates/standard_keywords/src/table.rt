@@ -60,7 +60,7 @@ pub struct StandardTable {
 impl StandardTable {
     /// Returns the table that refuses patterns that cannot be read.
     ///
-    /// Such a pattern uses lookaround or a back reference, or is not a pattern.
+    /// Such a text is of neither grammar of ECMA-262, or uses what is not supported.
     pub fn new() -> StandardTable
         ensures refuses { result.unreadable ≡ unreadable.Refused }
     {
