@@ -8,12 +8,13 @@ use Rattle.pattern_trees.specs.Nodes.{Node, Nothing, OneOf, At, Reference, Group
 use Rattle.pattern_trees.specs.Patterns.{IsFound, IsWithin}
 use Rattle.pattern_trees.specs.Trees.{IsPlain, pattern_of}
 use Rattle.pattern_trees.proofs.Matched.{found-matches}
-use Rattle.std.specs.Result.{result_ok}
+use Rattle.std.specs.Result.{result_err, result_ok}
 use Rattle.pattern_reader.specs.Characters.{seen}
+use Rattle.pattern_reader.specs.Faults.{error_text}
 use Rattle.pattern_reader.specs.Reading.{Reading, located, read}
 use Rattle.pattern_reader.specs.declared.faults.ReadError.{ReadError}
 use Rattle.theory_definitions.specs.Instance.{Text}
-use Rattle.pattern_matcher.specs.PatternMatching.{is_in_order, is_plain, reading_of}
+use Rattle.pattern_matcher.specs.PatternMatching.{fault_text, is_in_order, is_plain, reading_of}
 use Rattle.pattern_matcher.specs.ReadViews.{reading_seen}
 use Rattle.pattern_reader.specs.declared.reader.Pattern.{Pattern}
 
@@ -66,6 +67,17 @@ pub read_alike : (p : Text) (s : Chars) (r : Result Pattern ReadError) → s ≡
     → option_map reading_seen (result_ok r) ≡ reading_of p
 unfolding reading_of
 read_alike p s r same e = as_seen r ∙ (ap result_ok e ∙ (same_ok (located s) (λ x. refl) (λ e. refl) (read s) ∙ ap (λ c. result_ok (read c)) same))
+
+err_seen : (r : Result Pattern ReadError) → result_err r ≡ result_err (seen reading_seen r)
+err_seen (Ok p) = refl
+err_seen (Err e) = refl
+
+-- what the code finds wrong with a text's characters is what is wrong with the text
+pub fault_alike : (p : Text) (s : Chars) (r : Result Pattern ReadError) → s ≡ chars p → seen reading_seen r ≡ located s (read s)
+    → option_map error_text (result_err r) ≡ fault_text p
+unfolding fault_text
+fault_alike p s r same e =
+    ap (option_map error_text) (err_seen r ∙ ap result_err e) ∙ ap (λ c. option_map error_text (result_err (located c (read c)))) same
 
 -- what each turn of a loop over characters yields is the character
 pub same_map : (xs : List ℕ) → map (λ c. c) xs ≡ xs

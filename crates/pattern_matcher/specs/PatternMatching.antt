@@ -1,13 +1,14 @@
 -- The meaning of a text as a pattern, and whether it has a match: a text is read by the grammars of
 -- ECMA-262 (22.2.1 and B.1.2), and matches as the standard defines it (22.2.2). Nothing here depends
 -- on a table of patterns. (ECMA-262, 2025; Validation 2020-12, 4.3)
-use Rattle.std.specs.Prelude.{Bool, List, None, Option, Some, chars, codes, false, find, if◌then◌else◌, is_none, is_some, nat_le, not, true, ℕ, ◌&&◌, ◌≡◌, bytes_eq}
+use Rattle.std.specs.Prelude.{Bool, List, None, Option, Some, chars, codes, false, find, if◌then◌else◌, is_none, is_some, nat_le, not, option_map, true, ℕ, ◌&&◌, ◌≡◌, bytes_eq}
 use Rattle.std.specs.List.{list_any}
-use Rattle.std.specs.Result.{result_ok}
+use Rattle.std.specs.Result.{result_err, result_ok}
 use Rattle.pattern_trees.specs.Matching.{Chars, found}
 use Rattle.pattern_trees.specs.Nodes.{Node, Nothing, OneOf, At, Reference, Group, Around, Times, Pair, Choice}
 use Rattle.pattern_backtracking.specs.Counting.{decided}
-use Rattle.pattern_reader.specs.Reading.{Reading, read}
+use Rattle.pattern_reader.specs.Faults.{error_text}
+use Rattle.pattern_reader.specs.Reading.{Reading, located, read}
 use Rattle.theory_definitions.specs.Instance.{Text}
 use Rattle.theory_definitions.specs.Matching.{Match, Matcher, engine, finished, limit, unfinished}
 use Rattle.pattern_matcher.specs.declared.treatment.Treatment.{Treatment}
@@ -17,6 +18,10 @@ use Rattle.pattern_matcher.specs.declared.treatment.Unreadable.TheVariants.{Left
 -- what a text is read as, if it is a pattern
 unfoldable pub reading_of : Text → Option Reading
 reading_of p = result_ok (read (chars p))
+
+-- what is wrong with a text that cannot be read, and at which character
+unfoldable pub fault_text : Text → Option Text
+fault_text p = option_map error_text (result_err (located (chars p) (read (chars p))))
 
 abbrev pub is_readable : Text → Bool
 is_readable p = is_some (reading_of p)

@@ -18,4 +18,5 @@ pub use documents::patterns_of;
 pub use matcher::PatternMatcher;
 pub use patterns::Patterns;
 pub use read_pattern::{ReadPattern, is_readable};
+pub use reading::fault_text;
 pub use treatment::{Treatment, Unreadable};

@@ -1,6 +1,6 @@
 //! Reads texts, as characters and as patterns.
-ghost use Rattle.std.specs.Prelude.{◌≡◌, IfOk, chars, option_map};
-ghost use Rattle.pattern_matcher.specs.PatternMatching.{reading_of};
+ghost use Rattle.std.specs.Prelude.{◌≡◌, IfOk, chars, option_map, string_bytes};
+ghost use Rattle.pattern_matcher.specs.PatternMatching.{fault_text, reading_of};
 ghost use Rattle.pattern_matcher.specs.ReadViews.{reading_seen};
 
 use pattern_reader::{Pattern, read};
@@ -33,4 +33,23 @@ pub fn read_pattern(alloc: Global, text: &str) -> Result<Option<Pattern>, OutOfM
     let chars = chars_of(alloc, text)?;
     let reading = read(alloc, chars.as_slice())?;
     Ok(reading.ok())
+}
+
+/// Returns why a text cannot be read as a pattern; `None` if it can.
+///
+/// The text also says whether it breaks a rule of the standard or is only not supported, and at
+/// which character.
+///
+/// # Errors
+///
+/// Out of memory.
+pub fn fault_text(alloc: Global, text: &str) -> Result<Option<String>, OutOfMemory>
+    ensures fault { IfOk result (λ o. option_map string_bytes o ≡ fault_text text.now) }
+{
+    let chars = chars_of(alloc, text)?;
+    let reading = read(alloc, chars.as_slice())?;
+    match reading.err() {
+        Some(error) => Ok(Some(format!(in alloc; "{error}")?)),
+        None => Ok(None),
+    }
 }

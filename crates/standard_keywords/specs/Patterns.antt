@@ -8,7 +8,7 @@ use Rattle.theory_definitions.specs.Instance.{Text, a_name}
 use Rattle.theory_definitions.specs.Meaning.{subject_text}
 use Rattle.schema_traits.specs.KeywordViews.{option_list}
 use Rattle.keyword_makers.specs.Members.{names_of}
-use Rattle.pattern_matcher.specs.PatternMatching.{first_unreadable}
+use Rattle.pattern_matcher.specs.PatternMatching.{fault_text, first_unreadable}
 use Rattle.standard_keywords.specs.declared.patterns.UnreadablePatterns.{UnreadablePatterns}
 use Rattle.standard_keywords.specs.declared.patterns.UnreadablePatterns.TheVariants.{LeftToTheMatcher, Refused}
 
@@ -22,9 +22,14 @@ patterns_in name d =
     if bytes_eq name (codes "pattern") then option_list (as_str d)
     else (if bytes_eq name (codes "patternProperties") then names_in (as_object d) else [])
 
--- the text of the refusal of a pattern; it shows the pattern as a JSON string
+abbrev pub after_colon : Option Text → Text
+after_colon None = []
+after_colon (Some t) = codes ": " ++ t
+
+-- the text of the refusal of a pattern; it shows the pattern as a JSON string, and says what is
+-- wrong with it and at which character
 abbrev pub unreadable_text : Text → Text
-unreadable_text p = subject_text (a_name p) ++ codes " is not a \"regex\""
+unreadable_text p = subject_text (a_name p) ++ codes " is not a \"regex\"" ++ after_colon (fault_text p)
 
 -- the refusal of the first pattern of a list that cannot be read
 abbrev pub refusal_among : List Text → Option Text

@@ -12,7 +12,7 @@ ghost use Rattle.schema_traits.specs.Readings.{fields};
 ghost use Rattle.standard_keywords.specs.MakerWords.{ShowsRefusal};
 
 use keyword_makers::value_in;
-use pattern_matcher::is_readable;
+use pattern_matcher::{fault_text, is_readable};
 use schema_drafts::BuiltinKeyword;
 use schema_reports::{Instance, OutOfMemory};
 use schema_traits::KeywordOrigin;
@@ -38,6 +38,10 @@ fn unreadable_text(alloc: Global, pattern: &str) -> Result<String, OutOfMemory>
 {
     let mut text = Instance::Name(pattern).text(alloc)?;
     text.push_str(" is not a \"regex\"")?;
+    if let Some(fault) = fault_text(alloc, pattern)? {
+        text.push_str(": ")?;
+        text.push_str(fault.as_str())?;
+    }
     Ok(text)
 }
 
