@@ -22,14 +22,14 @@ patterns_in name d =
     if bytes_eq name (codes "pattern") then option_list (as_str d)
     else (if bytes_eq name (codes "patternProperties") then names_in (as_object d) else [])
 
-abbrev pub after_colon : Option Text → Text
-after_colon None = []
-after_colon (Some t) = codes ": " ++ t
+abbrev pub with_fault : Text → Option Text → Text
+with_fault t None = t
+with_fault t (Some fault) = t ++ codes ": " ++ fault
 
 -- the text of the refusal of a pattern; it shows the pattern as a JSON string, and says what is
 -- wrong with it and at which character
 abbrev pub unreadable_text : Text → Text
-unreadable_text p = subject_text (a_name p) ++ codes " is not a \"regex\"" ++ after_colon (fault_text p)
+unreadable_text p = with_fault (subject_text (a_name p) ++ codes " is not a \"regex\"") (fault_text p)
 
 -- the refusal of the first pattern of a list that cannot be read
 abbrev pub refusal_among : List Text → Option Text

@@ -1,5 +1,5 @@
 //! Patterns of a schema that cannot be read as regular expressions.
-ghost use Rattle.std.specs.Prelude.{◌∷◌, [], string_bytes};
+ghost use Rattle.std.specs.Prelude.{◌∷◌, [], string_bytes, ◌++◌, codes};
 ghost use Rattle.serde_json.specs.Find.{as_object, as_str, get_member};
 ghost use Rattle.serde_json.specs.View.{view};
 ghost use Rattle.schema_drafts.specs.KeywordViews.{builtin_text};
@@ -33,16 +33,25 @@ pub enum UnreadablePatterns {
     LeftToTheMatcher,
 }
 
+// Returns a text with a fault after a colon.
+fn with_fault(text: String, fault: &str) -> Result<String, OutOfMemory>
+    ensures text { Shows string_bytes result (string_bytes text ++ codes ": " ++ fault.now) }
+{
+    let mut text = text;
+    text.push_str(": ")?;
+    text.push_str(fault)?;
+    Ok(text)
+}
+
 fn unreadable_text(alloc: Global, pattern: &str) -> Result<String, OutOfMemory>
     ensures text { Shows string_bytes result (unreadable_text pattern.now) }
 {
     let mut text = Instance::Name(pattern).text(alloc)?;
     text.push_str(" is not a \"regex\"")?;
-    if let Some(fault) = fault_text(alloc, pattern)? {
-        text.push_str(": ")?;
-        text.push_str(fault.as_str())?;
+    match fault_text(alloc, pattern)? {
+        Some(fault) => with_fault(text, fault.as_str()),
+        None => Ok(text),
     }
-    Ok(text)
 }
 
 fn refusal_of(alloc: Global, pattern: &str) -> Result<Option<String>, OutOfMemory>
