@@ -1,3 +1,4 @@
 pub mod PatternMatching
+pub mod PatternTables
 pub mod ReadViews
 pub mod SchemaPatterns

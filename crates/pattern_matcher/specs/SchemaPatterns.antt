@@ -1,8 +1,8 @@
 -- The patterns in documents: each text under a member `pattern`, and each member's name under a
 -- member `patternProperties`, anywhere in the documents, even in a constant or an example.
 -- (Validation 2020-12, 6.3.3; Core 2020-12, 10.3.2.2)
-use Rattle.std.specs.Prelude.{Bool, List, [], bytes_eq, codes, if◌then◌else◌, ◌++◌, ◌∷◌, ◌≡◌, ◌||◌}
-use Rattle.std.specs.List.{flat_map, list_any}
+use Rattle.std.specs.Prelude.{List, [], bytes_eq, codes, if◌then◌else◌, ◌++◌, ◌∷◌}
+use Rattle.std.specs.List.{flat_map}
 use Rattle.serde_json.specs.Data.{Data, Items, Members, array, boolean, item, member, no_items, no_members, null, number, object, string}
 use Rattle.theory_definitions.specs.Instance.{Text}
 
@@ -52,11 +52,3 @@ abbrev mutual
 
 abbrev pub patterns_of : List Data → List Text
 patterns_of = flat_map patterns_in
-
--- the text is in the list
-abbrev pub has : Text → List Text → Bool
-has t ts = list_any (bytes_eq t) ts
-
--- the new list has exactly the texts of the old one and these
-abbrev pub IsAdded : List Text → List Text → List Text → Type 0
-IsAdded old more new = (t : Text) → has t new ≡ (has t old || has t more)

@@ -1,9 +1,11 @@
 //! The patterns of documents, each read once.
-ghost use Rattle.std.specs.Prelude.{◌≡◌, ◌++◌, ◌∷◌, [], IfErr, IfOk, IfSome, map, slice_get};
+ghost use Rattle.std.specs.Prelude.{◌≡◌, [], IfSome, OnErr, OnOk, is_some, map};
 ghost use Rattle.std.specs.List.{list_any};
+ghost use Rattle.schema_reports.specs.Showing.{Yields};
 ghost use Rattle.serde_json.specs.View.{view};
 ghost use Rattle.pattern_matcher.specs.PatternMatching.{careful, is_unreadable, limit_for, readable_only, refers};
-ghost use Rattle.pattern_matcher.specs.SchemaPatterns.{IsAdded, patterns_of};
+ghost use Rattle.pattern_matcher.specs.PatternTables.{distinct, has, with_text};
+ghost use Rattle.pattern_matcher.specs.SchemaPatterns.{patterns_of};
 
 use crate::documents::patterns_of;
 use crate::read_pattern::ReadPattern;
@@ -17,19 +19,26 @@ use std::marker::Model;
 const STEP_LIMIT: u64 = 1_000_000;
 
 /// A table of patterns, each read once.
+///
+/// Contracts see the list of their texts, in the order in which they were added.
 #[derive(Drop)]
 pub struct Patterns {
     read: Vec<ReadPattern>,
+    // Maps each text to its place in the list.
     places: HashMap<String, usize>,
 }
 
 impl Model for Patterns {
     ghost use Rattle.std.specs.Prelude.{List};
+    ghost use Rattle.std.specs.HashMap.{get_by_text};
     ghost use Rattle.theory_definitions.specs.Instance.{Text};
+    ghost use Rattle.pattern_matcher.specs.PatternTables.{IsPlaced};
 
     ghost Value = { List Text };
 
     ghost view = { λ p. p.read.items };
+
+    ghost invariant = { λ p. IsPlaced p.read.items (get_by_text p.places) };
 }
 
 impl Patterns {
@@ -52,7 +61,7 @@ impl Patterns {
     ///
     /// Out of memory.
     pub fn for_schemas(alloc: Global, documents: &[&Value]) -> Result<Patterns, OutOfMemory>
-        ensures patterns { IfOk result (IsAdded [] (patterns_of (map (λ d. view d.now) documents.now))) }
+        ensures patterns { Yields result (distinct (patterns_of (map (λ d. view d.now) documents.now))) }
     {
         let texts = patterns_of(alloc, documents)?;
         let mut patterns = Patterns::new(alloc);
@@ -68,44 +77,26 @@ impl Patterns {
     ///
     /// Out of memory. The table is then unchanged.
     pub fn add(&mut self, alloc: Global, pattern: &str) -> Result<(), OutOfMemory>
-        ensures added { IfOk result (λ _. IsAdded self.old (pattern.now ∷ []) self.new) }
-        ensures kept { IfErr result (λ _. self.new ≡ self.old) }
+        ensures added { OnOk result (self.new ≡ with_text self.old pattern.now) }
+        ensures kept { OnErr result (self.new ≡ self.old) }
     {
-        if self.place_of(pattern).is_some() {
+        if self.places.contains_key(pattern) {
             return Ok(());
         }
         let read = ReadPattern::new(alloc, pattern)?;
         let name = String::from_str(alloc, pattern)?;
-        self.keep(name, read)?;
-        Ok(())
-    }
-
-    fn keep(&mut self, name: String, read: ReadPattern) -> Result<(), OutOfMemory>
-        ensures added { IfOk result (λ _. self.new ≡ self.old ++ read ∷ []) }
-        ensures kept { IfErr result (λ _. self.new ≡ self.old) }
-    {
+        self.read.reserve(1)?;
         self.places.insert(name, self.read.len())?;
         self.read.push(read)?;
         Ok(())
     }
 
-    // Returns the place of a pattern, if it is in the table.
-    fn place_of(&self, pattern: &str) -> Option<usize>
-        ensures place { IfSome result (λ i. slice_get self.now i ≡ Some pattern.now) }
-    {
-        let place = self.places.get(pattern).copied()?;
-        let read = self.read.get(place)?;
-        if read.source() != pattern {
-            return None;
-        }
-        Some(place)
-    }
-
     /// Returns what a text was read as, if it is in the table.
     pub fn find(&self, pattern: &str) -> Option<&ReadPattern>
+        ensures found { is_some result ≡ has pattern.now self.now }
         ensures same { IfSome result (λ p. p.now ≡ pattern.now) }
     {
-        let place = self.place_of(pattern)?;
+        let place = self.places.get(pattern).copied()?;
         self.read.get(place)
     }
 

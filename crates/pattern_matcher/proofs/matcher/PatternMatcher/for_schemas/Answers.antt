@@ -1,9 +1,10 @@
-use Rattle.std.proofs.Common.{◌∙◌}
+use Rattle.std.proofs.Common.{◌∙◌, ap}
 use Rattle.std.proofs.lemmas.Result.{IfOk-weaker}
-use Rattle.pattern_matcher.proofs.Tables.{same_careful}
+use Rattle.pattern_matcher.specs.PatternMatching.{careful}
+use Rattle.pattern_matcher.proofs.Tables.{careful_distinct}
 use Rattle.pattern_matcher.proofs.matcher.PatternMatcher.for_schemas.Goals as goal
 
 pub returns : goal.returns
 returns c = record {
-  careful = IfOk-weaker c.new.result _ _ (λ m same. same ∙ same_careful _ _ c.in_ok-patterns.ensures.patterns) c.new.ensures.careful;
+  careful = IfOk-weaker c.new.result _ _ (λ m same. same ∙ (ap careful c.in_ok-patterns.ensures.patterns ∙ careful_distinct _)) c.new.ensures.careful;
 }
