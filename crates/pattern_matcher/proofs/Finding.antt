@@ -9,10 +9,10 @@ use Rattle.pattern_trees.specs.Patterns.{IsFound, IsWithin}
 use Rattle.pattern_trees.specs.Trees.{IsPlain, pattern_of}
 use Rattle.pattern_trees.proofs.Matched.{found-matches}
 use Rattle.std.specs.Result.{result_err, result_ok}
-use Rattle.pattern_reader.specs.Characters.{seen}
-use Rattle.pattern_reader.specs.Faults.{error_text}
+use Rattle.pattern_characters.specs.Characters.{seen}
+use Rattle.pattern_reader.specs.Errors.{error_text}
 use Rattle.pattern_reader.specs.Reading.{Reading, located, read}
-use Rattle.pattern_reader.specs.declared.faults.ReadError.{ReadError}
+use Rattle.pattern_reader.specs.declared.errors.ReadError.{ReadError}
 use Rattle.theory_definitions.specs.Instance.{Text}
 use Rattle.pattern_matcher.specs.PatternMatching.{fault_text, is_in_order, is_plain, reading_of}
 use Rattle.pattern_matcher.specs.ReadViews.{reading_seen}

@@ -7,7 +7,7 @@ use Rattle.std.specs.Result.{result_err, result_ok}
 use Rattle.pattern_trees.specs.Matching.{Chars, found}
 use Rattle.pattern_trees.specs.Nodes.{Node, Nothing, OneOf, At, Reference, Group, Around, Times, Pair, Choice}
 use Rattle.pattern_backtracking.specs.Counting.{decided}
-use Rattle.pattern_reader.specs.Faults.{error_text}
+use Rattle.pattern_reader.specs.Errors.{error_text}
 use Rattle.pattern_reader.specs.Reading.{Reading, located, read}
 use Rattle.theory_definitions.specs.Instance.{Text}
 use Rattle.theory_definitions.specs.Matching.{Match, Matcher, engine, finished, limit, unfinished}

@@ -5,10 +5,10 @@ use Rattle.pattern_reader.specs.States as spec
 use Rattle.std.proofs.Common.{Ok, Err}
 use Rattle.pattern_reader.specs.Reading as reading
 use Rattle.pattern_reader.specs.Views.{part_of, parts_of, level_of, levels_of, state_of}
-use Rattle.pattern_reader.specs.Names.{names_of}
+use Rattle.pattern_reader.specs.Groups.{names_of}
 use Rattle.pattern_reader.specs.declared.groups.GroupName.{GroupName}
 use Rattle.pattern_reader.specs.declared.states.State.{State}
-use Rattle.pattern_reader.specs.declared.faults.Fault.TheVariants.{OpenGroup}
+use Rattle.pattern_characters.specs.declared.faults.Fault.TheVariants.{OpenGroup}
 use Rattle.pattern_reader.specs.declared.states.Part.{Part}
 use Rattle.pattern_reader.specs.declared.states.Level.{Level}
 

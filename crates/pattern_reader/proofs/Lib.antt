@@ -1,4 +1,1 @@
-pub mod Changing
 pub mod Lasts
-pub mod OfMembers
-pub mod Ordered

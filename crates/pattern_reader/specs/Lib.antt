@@ -1,14 +1,7 @@
-pub mod Characters
-pub mod Classes
-pub mod Counts
-pub mod Escapes
-pub mod Faults
-pub mod Names
+pub mod Errors
+pub mod Groups
 pub mod Openings
 pub mod Outcomes
-pub mod Properties
 pub mod Reading
-pub mod Telling
-pub mod Views
-pub mod Sets
 pub mod States
+pub mod Views

@@ -1,11 +1,11 @@
 -- What begins a group, after its opening bracket (22.2.1, Atom and Assertion).
 use Rattle.std.specs.Prelude.{ℕ, Bool, true, false, not, ◌&&◌, ◌||◌, ◌==◌, [], ◌∷◌, Option, Some, None, if◌then◌else◌, Result, Ok, Err}
-use Rattle.pattern_reader.specs.Characters.{Text, ◌>>=◌, or_fault, seen, is_letter, after}
-use Rattle.pattern_reader.specs.Names.{name}
-use Rattle.pattern_reader.specs.declared.faults.Fault.{Fault}
-use Rattle.pattern_reader.specs.declared.faults.Fault.TheVariants.{BadOpening, BadName, BadFlags, OtherFlags}
-use Rattle.pattern_reader.specs.declared.parts.Flags.{Flags}
-use Rattle.pattern_reader.specs.declared.parts.Grammar.{Grammar}
+use Rattle.pattern_characters.specs.Characters.{Text, ◌>>=◌, or_fault, seen, is_letter, after}
+use Rattle.pattern_characters.specs.Names.{name}
+use Rattle.pattern_characters.specs.declared.faults.Fault.{Fault}
+use Rattle.pattern_characters.specs.declared.faults.Fault.TheVariants.{BadOpening, BadName, BadFlags, OtherFlags}
+use Rattle.pattern_characters.specs.declared.parts.Flags.{Flags}
+use Rattle.pattern_characters.specs.declared.parts.Grammar.{Grammar}
 use Rattle.pattern_reader.specs.declared.parts.Opening.{Opening}
 use Rattle.pattern_reader.specs.declared.parts.Opening.TheVariants.{Capture, Plain, Around, Inline}
 

@@ -3,22 +3,23 @@ use Rattle.std.specs.Prelude.{ℕ, suc, ◌+◌, ◌-◌, Bool, true, false, not
 use Rattle.pattern_trees.specs.Nodes.{Node, Nothing, OneOf, At, Reference, Group, Around, Times, Pair, Choice}
 use Rattle.pattern_trees.specs.declared.tree.Edge.TheVariants.{TextStart, TextEnd, LineStart, LineEnd, WordEdge, NoWordEdge}
 use Rattle.pattern_trees.specs.declared.tree.Edge.{Edge}
-use Rattle.pattern_reader.specs.Characters.{Text, ◌>>=◌, or_fault, is_between, after, number, clamped}
-use Rattle.pattern_reader.specs.Classes.{class}
-use Rattle.pattern_reader.specs.Counts.{braces, count}
-use Rattle.pattern_reader.specs.Escapes.{member}
-use Rattle.pattern_reader.specs.Names.{Names, name, groups_of, has_names, has_name, references, is_named}
+use Rattle.pattern_characters.specs.Characters.{Text, ◌>>=◌, or_fault, is_between, after, number, clamped}
+use Rattle.pattern_characters.specs.Classes.{class}
+use Rattle.pattern_characters.specs.Counts.{braces, count}
+use Rattle.pattern_characters.specs.Escapes.{member}
+use Rattle.pattern_characters.specs.Names.{name}
+use Rattle.pattern_reader.specs.Groups.{Names, groups_of, has_names, has_name, references, is_named}
 use Rattle.pattern_reader.specs.Openings.{opening, no_flags}
-use Rattle.pattern_reader.specs.Sets.{member_node, dot_node}
+use Rattle.pattern_characters.specs.Sets.{member_node, dot_node}
 use Rattle.pattern_reader.specs.States.{State, start, next_alternative, body, with_atom, with_edge, with_top, opened, closed, repeated}
-use Rattle.pattern_reader.specs.declared.faults.Fault.{Fault}
-use Rattle.pattern_reader.specs.declared.faults.Fault.TheVariants.{LoneBracket, BadEscape, NoSuchGroup, NoSuchName, BadName, OpenGroup, SameName, OtherFlags, ReferenceIgnoringCase}
-use Rattle.pattern_reader.specs.declared.faults.Refusal.{Refusal}
-use Rattle.pattern_reader.specs.declared.faults.ReadError.{ReadError}
-use Rattle.pattern_reader.specs.declared.parts.Count.{Count}
-use Rattle.pattern_reader.specs.declared.parts.Flags.{Flags}
-use Rattle.pattern_reader.specs.declared.parts.Grammar.{Grammar}
-use Rattle.pattern_reader.specs.declared.parts.Member.TheVariants.{One}
+use Rattle.pattern_characters.specs.declared.faults.Fault.{Fault}
+use Rattle.pattern_characters.specs.declared.faults.Fault.TheVariants.{LoneBracket, BadEscape, NoSuchGroup, NoSuchName, BadName, OpenGroup, SameName, OtherFlags, ReferenceIgnoringCase}
+use Rattle.pattern_reader.specs.declared.errors.Refusal.{Refusal}
+use Rattle.pattern_reader.specs.declared.errors.ReadError.{ReadError}
+use Rattle.pattern_characters.specs.declared.parts.Count.{Count}
+use Rattle.pattern_characters.specs.declared.parts.Flags.{Flags}
+use Rattle.pattern_characters.specs.declared.parts.Grammar.{Grammar}
+use Rattle.pattern_characters.specs.declared.parts.Member.TheVariants.{One}
 use Rattle.pattern_reader.specs.declared.parts.Opening.{Opening}
 use Rattle.pattern_reader.specs.declared.parts.Opening.TheVariants as opens
 use Rattle.pattern_reader.specs.declared.parts.Wrap.TheVariants as wrap

@@ -3,13 +3,13 @@ use Rattle.std.specs.Prelude.{ℕ, ◌+◌, ◌-◌, Bool, true, false, not, ◌
 use Rattle.pattern_trees.specs.Nodes.{Node, Nothing, At, Group, Around, Times, Pair, Choice}
 use Rattle.pattern_trees.specs.declared.tree.Edge.{Edge}
 use Rattle.pattern_trees.specs.declared.tree.Turns.{Turns}
-use Rattle.pattern_reader.specs.Characters.{clamped}
-use Rattle.pattern_reader.specs.Counts.{in_order}
-use Rattle.pattern_reader.specs.declared.faults.Fault.{Fault}
-use Rattle.pattern_reader.specs.declared.faults.Fault.TheVariants.{NothingToRepeat, NumbersOutOfOrder, NoGroupToClose, TooDeep, TooManyGroups}
-use Rattle.pattern_reader.specs.declared.parts.Count.{Count}
-use Rattle.pattern_reader.specs.declared.parts.Flags.{Flags}
-use Rattle.pattern_reader.specs.declared.parts.Grammar.{Grammar}
+use Rattle.pattern_characters.specs.Characters.{clamped}
+use Rattle.pattern_characters.specs.Counts.{in_order}
+use Rattle.pattern_characters.specs.declared.faults.Fault.{Fault}
+use Rattle.pattern_characters.specs.declared.faults.Fault.TheVariants.{NothingToRepeat, NumbersOutOfOrder, NoGroupToClose, TooDeep, TooManyGroups}
+use Rattle.pattern_characters.specs.declared.parts.Count.{Count}
+use Rattle.pattern_characters.specs.declared.parts.Flags.{Flags}
+use Rattle.pattern_characters.specs.declared.parts.Grammar.{Grammar}
 use Rattle.pattern_reader.specs.declared.parts.Wrap.{Wrap}
 use Rattle.pattern_reader.specs.declared.parts.Wrap.TheVariants as wrap
 

@@ -1,7 +1,7 @@
 //! Groups of one name that may both take part in a match.
 ghost use Rattle.std.specs.Prelude.{◌≡◌, ◌&&◌, not};
 ghost use Rattle.pattern_trees.specs.Nodes.{node_of};
-ghost use Rattle.pattern_reader.specs.Names.{name_of, names_of};
+ghost use Rattle.pattern_reader.specs.Groups.{name_of, names_of};
 ghost use Rattle.pattern_reader.specs.Reading as spec;
 
 use crate::groups::{GroupName, is_named};

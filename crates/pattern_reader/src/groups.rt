@@ -1,12 +1,12 @@
 //! Which groups a text has, and their names.
 ghost use Rattle.std.specs.Prelude.{◌≡◌, ◌==◌, ◌||◌, ◌++◌, IfOk, OnOk, option_map, false, map};
-ghost use Rattle.pattern_reader.specs.Characters.{starts};
+ghost use Rattle.pattern_characters.specs.Characters.{starts};
 ghost use Rattle.pattern_trees.specs.Nodes.{Nothing, node_of};
-ghost use Rattle.pattern_reader.specs.Names as spec;
-ghost use Rattle.pattern_reader.specs.Names.{names_of, name_of};
+ghost use Rattle.pattern_characters.specs.Names as names_spec;
+ghost use Rattle.pattern_reader.specs.Groups as spec;
+ghost use Rattle.pattern_reader.specs.Groups.{names_of, name_of};
 
-use crate::characters::after;
-use crate::names::name;
+use pattern_characters::{after, name};
 use pattern_trees::Tree;
 use std::alloc::{AllocError, Global};
 
@@ -18,7 +18,7 @@ pub(crate) struct GroupName {
 
 // Reads the name of a group, without what follows it.
 fn name_only(alloc: Global, text: &[char]) -> Result<GroupName, AllocError>
-    ensures name { IfOk result (λ n. name_of n ≡ option_map (λ p. p.0) (spec.name text.now)) }
+    ensures name { IfOk result (λ n. name_of n ≡ option_map (λ p. p.0) (names_spec.name text.now)) }
 {
     match name(alloc, text)? {
         Some((name, _)) => Ok(GroupName { name: Some(name) }),
@@ -119,7 +119,7 @@ fn opens(p: Place, c: char) -> bool
 }
 
 // Returns the names of the groups that a text has.
-#[tactic(auto, unfolding(crate::specs::Names::groups_from, crate::specs::Names::groups_of))]
+#[tactic(auto, unfolding(crate::specs::Groups::groups_from, crate::specs::Groups::groups_of))]
 pub(crate) fn groups_of(
     alloc: Global,
     extended: bool,
@@ -144,7 +144,7 @@ pub(crate) fn groups_of(
 }
 
 // Returns whether two texts are the same.
-#[tactic(auto, unfolding(crate::specs::Names::same_text))]
+#[tactic(auto, unfolding(crate::specs::Groups::same_text))]
 fn same_text(one: &[u32], other: &[u32]) -> bool
     ensures same { result ≡ spec.same_text one.now other.now }
 {
@@ -175,7 +175,7 @@ pub(crate) fn is_named(wanted: &[u32], group: &GroupName) -> bool
 }
 
 // Returns whether some group has a name.
-#[tactic(auto, unfolding(crate::specs::Names::has_names))]
+#[tactic(auto, unfolding(crate::specs::Groups::has_names))]
 pub(crate) fn has_names(names: &[GroupName]) -> bool
     ensures has { result ≡ spec.has_names (names_of names.now) }
 {
@@ -192,7 +192,7 @@ pub(crate) fn has_names(names: &[GroupName]) -> bool
 }
 
 // Returns whether some group has this name.
-#[tactic(auto, unfolding(crate::specs::Names::has_name))]
+#[tactic(auto, unfolding(crate::specs::Groups::has_name))]
 pub(crate) fn has_name(wanted: &[u32], names: &[GroupName]) -> bool
     ensures has { result ≡ spec.has_name wanted.now (names_of names.now) }
 {
@@ -221,7 +221,7 @@ fn with_reference(alloc: Global, named: bool, tree: Tree, k: u32) -> Result<Tree
 }
 
 // Returns references to the groups of a name, one after the other.
-#[tactic(auto, unfolding(crate::specs::Names::references))]
+#[tactic(auto, unfolding(crate::specs::Groups::references))]
 pub(crate) fn references(
     alloc: Global,
     wanted: &[u32],

@@ -4,25 +4,18 @@
 //! with a few spellings of other engines.
 #![tactic(auto)]
 
-mod characters;
 mod clashes;
-mod classes;
-mod counts;
-mod escapes;
-mod faults;
+mod errors;
 mod groups;
-mod members;
-mod names;
 mod openings;
 mod parts;
-mod properties;
 mod reader;
-mod spans;
 mod states;
 mod steps;
 mod terms;
 #[cfg(test)]
 mod tests;
 
-pub use faults::{Fault, Kind, ReadError};
-pub use reader::{OutOfMemory, Pattern, read};
+pub use errors::ReadError;
+pub use pattern_characters::{Fault, Kind, OutOfMemory};
+pub use reader::{Pattern, read};

@@ -1,13 +1,11 @@
 //! What begins a group.
 ghost use Rattle.std.specs.Prelude.{◌≡◌, option_map};
-ghost use Rattle.pattern_reader.specs.Characters.{seen};
+ghost use Rattle.pattern_characters.specs.Characters.{seen};
 ghost use Rattle.pattern_reader.specs.Openings as spec;
-ghost use Rattle.pattern_reader.specs.Telling.{Tells};
+ghost use Rattle.pattern_characters.specs.Telling.{Tells};
 
-use crate::characters::{after, is_letter};
-use crate::faults::{Fault, Stop};
-use crate::names::name;
-use crate::parts::{Flags, Grammar, Opening};
+use crate::parts::Opening;
+use pattern_characters::{Fault, Flags, Grammar, Stop, after, is_letter, name};
 use pattern_trees::Look;
 use std::alloc::Global;
 

@@ -3,23 +3,20 @@ ghost use Rattle.std.specs.Prelude.{◌≡◌, true, false, IfOk, Ok};
 ghost use Rattle.pattern_trees.specs.Nodes.{node_of};
 ghost use Rattle.pattern_trees.specs.Trees.{IsPlain};
 ghost use Rattle.pattern_trees.specs.Patterns.{IsWithin};
-ghost use Rattle.pattern_reader.specs.Characters.{seen};
-ghost use Rattle.pattern_reader.specs.Names.{names_of};
+ghost use Rattle.pattern_characters.specs.Characters.{seen};
+ghost use Rattle.pattern_reader.specs.Groups.{names_of};
 ghost use Rattle.pattern_reader.specs.Outcomes.{reading_of};
 ghost use Rattle.pattern_reader.specs.Reading as spec;
 ghost use Rattle.pattern_reader.specs.Views.{state_of};
 
 use crate::clashes::clash;
-use crate::faults::{Fault, ReadError, Refusal};
+use crate::errors::{ReadError, Refusal};
 use crate::groups::{GroupName, groups_of, has_names};
-use crate::parts::Grammar;
 use crate::states::{State, body};
 use crate::steps::read_all;
+use pattern_characters::{Fault, Grammar, OutOfMemory};
 use pattern_trees::{Tree, Turns};
 use std::alloc::{AllocError, Global};
-
-/// The allocator refused memory.
-pub type OutOfMemory = AllocError;
 
 /// A pattern that was read.
 #[derive(Drop)]

@@ -4,11 +4,10 @@ ghost use Rattle.pattern_trees.specs.Nodes.{node_of};
 ghost use Rattle.pattern_reader.specs.States as spec;
 ghost use Rattle.pattern_reader.specs.Reading.{is_head, with_flags};
 ghost use Rattle.pattern_reader.specs.Views.{part_of, parts_of, term_of, level_of, levels_of, state_of};
-ghost use Rattle.pattern_reader.specs.Telling.{Tells};
+ghost use Rattle.pattern_characters.specs.Telling.{Tells};
 
-use crate::counts::in_order;
-use crate::faults::{Fault, Stop};
-use crate::parts::{Count, Flags, Grammar, Wrap};
+use crate::parts::Wrap;
+use pattern_characters::{Count, Fault, Flags, Grammar, Stop, in_order};
 use pattern_trees::{Edge, Tree, Turns};
 use std::alloc::{AllocError, Global};
 

@@ -1,20 +1,19 @@
 //! Reads a pattern to its end.
 ghost use Rattle.std.specs.Prelude.{◌≡◌, ◌&&◌, ◌||◌, ◌==◌, IfOk};
-ghost use Rattle.pattern_reader.specs.Characters.{seen};
-ghost use Rattle.pattern_reader.specs.Names.{names_of};
+ghost use Rattle.pattern_characters.specs.Characters.{seen};
+ghost use Rattle.pattern_reader.specs.Groups.{names_of};
 ghost use Rattle.pattern_reader.specs.Openings as flags_spec;
 ghost use Rattle.pattern_reader.specs.Reading as spec;
 ghost use Rattle.pattern_reader.specs.States as states_spec;
-ghost use Rattle.pattern_reader.specs.Telling.{Tells};
+ghost use Rattle.pattern_characters.specs.Telling.{Tells};
 ghost use Rattle.pattern_reader.specs.Views.{state_of};
 
-use crate::faults::{Fault, Refusal, Stop};
+use crate::errors::Refusal;
 use crate::groups::GroupName;
-use crate::members::dot_tree;
 use crate::openings::no_flags;
-use crate::parts::{Count, Flags, Grammar};
 use crate::states::{State, closed, start, with_atom, with_bar, with_edge};
 use crate::terms::{braced, class_atom, escape, group, literal, quantified};
+use pattern_characters::{Count, Fault, Flags, Grammar, Stop, dot_tree};
 use pattern_trees::Edge;
 use std::alloc::{AllocError, Global};
 

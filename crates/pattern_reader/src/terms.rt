@@ -1,26 +1,23 @@
 //! Reads a pattern step by step.
 ghost use Rattle.std.specs.Prelude.{◌≡◌, ◌∷◌, None, IfOk};
 ghost use Rattle.pattern_trees.specs.Nodes.{node_of};
-ghost use Rattle.pattern_reader.specs.Names.{names_of};
+ghost use Rattle.pattern_reader.specs.Groups.{names_of};
 ghost use Rattle.pattern_reader.specs.Reading as spec;
-ghost use Rattle.pattern_reader.specs.Characters.{number};
-ghost use Rattle.pattern_reader.specs.Counts.{braces};
-ghost use Rattle.pattern_reader.specs.Sets.{IsMember, member_node};
+ghost use Rattle.pattern_characters.specs.Characters.{number};
+ghost use Rattle.pattern_characters.specs.Counts.{braces};
+ghost use Rattle.pattern_characters.specs.Sets.{IsMember, member_node};
 ghost use Rattle.pattern_reader.specs.States.{with_atom};
-ghost use Rattle.pattern_reader.specs.Telling.{Tells};
+ghost use Rattle.pattern_characters.specs.Telling.{Tells};
 ghost use Rattle.pattern_reader.specs.Views.{state_of};
 
-use crate::characters::{after, number};
-use crate::classes::class;
-use crate::counts::braces;
-use crate::escapes::member;
-use crate::faults::{Fault, Stop};
 use crate::groups::{GroupName, has_name, references};
-use crate::members::{member_tree, one_of};
-use crate::names::name;
 use crate::openings::opening;
-use crate::parts::{Count, Grammar, Member, Opening, Wrap};
+use crate::parts::{Opening, Wrap};
 use crate::states::{State, is_head, opened, repeated, with_atom, with_edge, with_flags};
+use pattern_characters::{
+    Count, Fault, Grammar, Member, Stop, after, braces, class, member, member_tree, name, number,
+    one_of,
+};
 use pattern_trees::{Edge, Tree};
 use std::alloc::{AllocError, Global};
 

@@ -1,5 +1,5 @@
 use Rattle.std.proofs.Common.{Some, ap, option_map, sym, ◌∙◌}
-use Rattle.pattern_reader.specs.Faults.{error_text}
+use Rattle.pattern_reader.specs.Errors.{error_text}
 use Rattle.pattern_matcher.proofs.Finding.{fault_alike}
 use Rattle.pattern_matcher.proofs.reading.fault_text.Goals as goal
 

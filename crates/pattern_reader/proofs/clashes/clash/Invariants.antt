@@ -1,6 +1,6 @@
 use Rattle.std.proofs.Common.{◌≡◌, length}
 use Rattle.pattern_trees.specs.Nodes.{node_of}
-use Rattle.pattern_reader.specs.Names.{names_of}
+use Rattle.pattern_reader.specs.Groups.{names_of}
 use Rattle.pattern_reader.specs.Reading.{clash}
 use Rattle.pattern_reader.proofs.clashes.clash.Given as goal
 

@@ -1,6 +1,6 @@
 use Rattle.std.proofs.Common.{◌≡◌, length}
 use Rattle.pattern_trees.specs.Nodes.{node_of}
-use Rattle.pattern_reader.specs.Names.{name_of, names_of}
+use Rattle.pattern_reader.specs.Groups.{name_of, names_of}
 use Rattle.pattern_reader.specs.Reading.{clash_with}
 use Rattle.pattern_reader.proofs.clashes.clash_with.Given as goal
 

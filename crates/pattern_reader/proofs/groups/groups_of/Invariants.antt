@@ -1,5 +1,5 @@
 use Rattle.std.proofs.Common.{◌≡◌, ◌++◌, length}
-use Rattle.pattern_reader.specs.Names.{names_of, groups_from, groups_of}
+use Rattle.pattern_reader.specs.Groups.{names_of, groups_from, groups_of}
 use Rattle.pattern_reader.proofs.groups.groups_of.Given as goal
 
 abbrev pub invariant-loop-rest : goal.invariant-loop-rest

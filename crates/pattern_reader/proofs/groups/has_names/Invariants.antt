@@ -1,5 +1,5 @@
 use Rattle.std.proofs.Common.{◌≡◌, length}
-use Rattle.pattern_reader.specs.Names.{names_of, has_names}
+use Rattle.pattern_reader.specs.Groups.{names_of, has_names}
 use Rattle.pattern_reader.proofs.groups.has_names.Given as goal
 
 abbrev pub invariant-loop-rest : goal.invariant-loop-rest

@@ -1,6 +1,6 @@
 use Rattle.std.proofs.Common.{◌≡◌, length}
 use Rattle.pattern_trees.specs.Nodes.{Nothing, node_of}
-use Rattle.pattern_reader.specs.Names.{names_of, references}
+use Rattle.pattern_reader.specs.Groups.{names_of, references}
 use Rattle.pattern_reader.proofs.groups.references.Given as goal
 
 abbrev pub invariant-loop-rest : goal.invariant-loop-rest

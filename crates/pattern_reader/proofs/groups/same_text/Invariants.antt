@@ -1,5 +1,5 @@
 use Rattle.std.proofs.Common.{◌≡◌, length}
-use Rattle.pattern_reader.specs.Names.{same_text}
+use Rattle.pattern_reader.specs.Groups.{same_text}
 use Rattle.pattern_reader.proofs.groups.same_text.Given as goal
 
 abbrev pub invariant-loop-one : goal.invariant-loop-one

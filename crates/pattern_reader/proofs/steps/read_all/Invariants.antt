@@ -1,5 +1,5 @@
 use Rattle.std.proofs.Common.{◌≡◌, length}
-use Rattle.pattern_reader.specs.Names.{names_of}
+use Rattle.pattern_reader.specs.Groups.{names_of}
 use Rattle.pattern_reader.specs.Openings.{no_flags}
 use Rattle.pattern_reader.specs.Reading.{read_from}
 use Rattle.pattern_reader.specs.States.{start}

@@ -1,0 +1,9 @@
+pub mod Characters
+pub mod Classes
+pub mod Counts
+pub mod Escapes
+pub mod Faults
+pub mod Names
+pub mod Properties
+pub mod Sets
+pub mod Telling
