@@ -1,10 +1,12 @@
--- What `format` makes, draft by draft, and `contentEncoding` and `contentMediaType` in drafts 6 and
--- 7. If formats are checked, then `format` makes a keyword of a name that the draft has, and
--- nothing of another name; a value that is no text is refused. If they are not checked, then it
--- makes nothing, whatever its value. A media type takes the encoding beside it into account, and
--- makes one keyword for both. (JSON Schema Validation: draft 2020-12, sections 7.2 and 7.3; draft
--- 7, sections 7.3, 8.3 and 8.4; draft 6, section 8.3; draft 4, section 7.3)
-use Rattle.std.specs.Prelude.{Bool, List, None, Option, Some, [], bytes_eq, codes, false, if◌then◌else◌, is_none, nat_le, true, ◌&&◌, ◌≡◌, ℕ}
+-- What `format` makes, draft by draft, and `contentEncoding` and `contentMediaType` in draft 7. If
+-- formats are checked, then `format` makes a keyword of a name that the draft has, or of `date`,
+-- `time` or `regex` in any draft, and nothing of another name; a value that is no text is refused.
+-- If they are not checked, then it makes nothing, whatever its value. The media type of JSON takes
+-- the encoding beside it into account, and makes one keyword for both; any other media type makes
+-- nothing, and the encoding beside it is asserted by itself. (JSON Schema Validation: draft
+-- 2020-12, sections 7.2 and 7.3; draft 7, sections 7.3, 8.3 and 8.4; draft 6, section 8.3; draft 4,
+-- section 7.3)
+use Rattle.std.specs.Prelude.{Bool, List, None, Option, Some, [], bytes_eq, codes, false, if◌then◌else◌, nat_le, true, ◌&&◌, ◌≡◌, ℕ}
 use Rattle.serde_json.specs.Data.{Data, Members}
 use Rattle.serde_json.specs.Find.{as_str, get_member}
 use Rattle.theory_definitions.specs.Drafts.{Draft, Vocabularies, draft_2019_09, draft_2020_12, draft_4, draft_6, draft_7, draft_unknown}
@@ -29,7 +31,8 @@ order draft_2019_09 = 2019
 order draft_2020_12 = 2020
 order draft_unknown = 2020
 
--- the number of the first draft in which a format is checked
+-- the number of the first draft in which a format is checked: the first that has it, but draft 4
+-- for `date` and `time`, which were defined before draft 4 and again from draft 7 on
 abbrev pub since : Format → ℕ
 since format.Date = 4
 since format.DateTime = 4
@@ -73,10 +76,11 @@ format_made draft (Some t) = keyword_if (keyword_named draft t)
 
 -- ---- contents
 
--- the drafts in which the contents are asserted
+-- the drafts in which the contents are asserted: draft 7, the first to have the two keywords; in
+-- later drafts they are annotations (draft 2020-12, section 8.1)
 abbrev pub asserts_contents : Draft → Bool
 asserts_contents draft_4 = false
-asserts_contents draft_6 = true
+asserts_contents draft_6 = false
 asserts_contents draft_7 = true
 asserts_contents draft_2019_09 = false
 asserts_contents draft_2020_12 = false
@@ -99,10 +103,23 @@ abbrev pub encoding_made : Option Text → MadeHere FormatKeyword
 encoding_made None = here.Malformed
 encoding_made (Some t) = if bytes_eq t (codes "base64") then here.Keyword Base64 children.Childless else here.Nothing
 
+abbrev pub is_json_name : Option Text → Bool
+is_json_name None = false
+is_json_name (Some t) = bytes_eq t (codes "application/json")
+
+-- whether there is a value and it is the media type of JSON
+abbrev pub is_json_type : Option Data → Bool
+is_json_type None = false
+is_json_type (Some d) = is_json_name (as_str d)
+
+-- an encoding beside this media type, if there is one
+abbrev pub encoding_beside : Option Data → Option Text → MadeHere FormatKeyword
+encoding_beside beside encoding = if is_json_type beside then here.Nothing else encoding_made encoding
+
 abbrev pub contents_made : Members → Text → Data → MadeHere FormatKeyword
 contents_made object name d =
     if bytes_eq name (codes "contentMediaType") then media_type_made (get_member (codes "contentEncoding") object) (as_str d)
-    else if bytes_eq name (codes "contentEncoding") && is_none (get_member (codes "contentMediaType") object) then encoding_made (as_str d)
+    else if bytes_eq name (codes "contentEncoding") then encoding_beside (get_member (codes "contentMediaType") object) (as_str d)
     else here.Nothing
 
 -- ---- all keywords

@@ -31,3 +31,7 @@ FollowsMember result checked draft object keyword = IfOk result (Begins shape_of
 -- the `contentEncoding` of an object, if present
 abbrev pub encoding_in : BTreeMap (String Global) Value → Option Data
 encoding_in object = get_member (codes "contentEncoding") (fields object)
+
+-- the `contentMediaType` of an object, if present
+abbrev pub media_type_in : BTreeMap (String Global) Value → Option Data
+media_type_in object = get_member (codes "contentMediaType") (fields object)

@@ -1,5 +1,5 @@
 //! The tests of `contentEncoding` and `contentMediaType`.
-ghost use Rattle.std.specs.Prelude.{◌≡◌};
+ghost use Rattle.std.specs.Prelude.{◌≡◌, IfOk};
 ghost use Rattle.schema_traits.specs.Showing.{Yields};
 ghost use Rattle.standard_formats.specs.Contents as spec;
 
@@ -9,7 +9,24 @@ use schema_reports::OutOfMemory;
 use serde_json::Value;
 use std::alloc::{AllocError, Global};
 
-/// Returns whether a text is base64.
+fn is_break(byte: u8) -> bool
+    ensures broken { result ≡ spec.is_break byte }
+{
+    byte == b'\r' || byte == b'\n'
+}
+
+/// Returns the bytes of a text that are not line breaks.
+fn unbroken(alloc: Global, text: &str) -> Result<Vec<u8>, OutOfMemory>
+    ensures unbroken { IfOk result (λ bytes. bytes.items ≡ spec.unbroken text.now) }
+{
+    text.as_bytes()
+        .iter()
+        .copied()
+        .filter(|byte| !is_break(*byte))
+        .collect(alloc)
+}
+
+/// Returns whether a text is base64, line breaks aside.
 ///
 /// # Errors
 ///
@@ -17,7 +34,8 @@ use std::alloc::{AllocError, Global};
 pub fn is_base64(alloc: Global, text: &str) -> Result<bool, OutOfMemory>
     ensures base64 { Yields result (spec.is_base64 text.now) }
 {
-    match STANDARD.decode(alloc, text.as_bytes()) {
+    let bytes = unbroken(alloc, text)?;
+    match STANDARD.decode(alloc, bytes.as_slice()) {
         Ok(_) => Ok(true),
         Err(error) => match error {
             DecodeAllocError::DecodeError(_) => Ok(false),
@@ -56,7 +74,7 @@ fn is_json_bytes(alloc: Global, bytes: &[u8]) -> Result<bool, OutOfMemory>
     }
 }
 
-/// Returns whether a text is JSON in base64.
+/// Returns whether a text is JSON in base64, line breaks aside.
 ///
 /// # Errors
 ///
@@ -64,7 +82,8 @@ fn is_json_bytes(alloc: Global, bytes: &[u8]) -> Result<bool, OutOfMemory>
 pub fn is_json_in_base64(alloc: Global, text: &str) -> Result<bool, OutOfMemory>
     ensures json { Yields result (spec.is_json_in_base64 text.now) }
 {
-    match STANDARD.decode(alloc, text.as_bytes()) {
+    let encoded = unbroken(alloc, text)?;
+    match STANDARD.decode(alloc, encoded.as_slice()) {
         Ok(bytes) => is_json_bytes(alloc, bytes.as_slice()),
         Err(error) => match error {
             DecodeAllocError::DecodeError(_) => Ok(false),

@@ -3,10 +3,11 @@
 //! If formats are checked, then `format` asserts that a text has the format with that name. Most
 //! formats are checked by a grammar (`text_formats`). A text has the format `regex` if it can be
 //! read as a pattern (`pattern_matcher`), and `idn-hostname` if it is an internationalized host name
-//! (`idna`). A name that the draft does not define asserts nothing.
+//! (`idna`). A name that the draft does not define asserts nothing, but for `date`, `time` and
+//! `regex`, which each draft checks.
 //!
-//! In drafts 6 and 7 `contentEncoding` and `contentMediaType` assert that a text is base64, JSON,
-//! or JSON in base64. Each keyword holds of an instance that is no text.
+//! In draft 7 `contentEncoding` and `contentMediaType` assert that a text is base64, JSON, or JSON
+//! in base64. Each keyword holds of an instance that is no text.
 #![tactic(auto)]
 
 mod contents;

@@ -4,12 +4,12 @@ ghost use Rattle.serde_json.specs.Find.{as_str};
 ghost use Rattle.serde_json.specs.View.{view};
 ghost use Rattle.schema_drafts.specs.KeywordViews.{builtin_text, draft_of};
 ghost use Rattle.keyword_makers.specs.ByObject.{formed};
-ghost use Rattle.standard_formats.specs.FormatMaking.{asserts_contents, contents_made, encoding_made, format_made};
-ghost use Rattle.standard_formats.specs.FormatMaking.{idn_hostname_in, json_beside, json_in, keyword_if, keyword_named, known};
+ghost use Rattle.standard_formats.specs.FormatMaking.{asserts_contents, contents_made, encoding_beside, encoding_made, format_made};
+ghost use Rattle.standard_formats.specs.FormatMaking.{idn_hostname_in, is_json_name, is_json_type, json_beside, json_in, keyword_if, keyword_named, known};
 ghost use Rattle.standard_formats.specs.FormatMaking.{made, media_type_made, order, since};
 ghost use Rattle.standard_formats.specs.Shapes.{shape_of};
 ghost use Rattle.schema_traits.specs.Readings.{fields, text_read};
-ghost use Rattle.standard_formats.specs.MakerWords.{FollowsMember, made_of_value, encoding_in};
+ghost use Rattle.standard_formats.specs.MakerWords.{FollowsMember, made_of_value, encoding_in, media_type_in};
 
 use crate::keyword::FormatKeyword;
 use keyword_authoring::Telling;
@@ -124,11 +124,7 @@ fn format_made(draft: Draft, value: &Value) -> Made
 fn asserts_contents(draft: Draft) -> bool
     ensures asserts { result ≡ asserts_contents (draft_of draft) }
 {
-    match draft {
-        Draft::Draft6 => true,
-        Draft::Draft7 => true,
-        _ => false,
-    }
+    matches!(draft, Draft::Draft7)
 }
 
 /// Makes the assertion that a text is JSON in an encoding.
@@ -173,7 +169,26 @@ fn media_type_made(object: &Map<String, Value>, value: &Value) -> Made
     }
 }
 
-/// Makes `contentEncoding` with no media type beside it.
+fn is_json_name(name: Option<&str>) -> bool
+    ensures json { result ≡ is_json_name (text_read name.entry) }
+{
+    match name {
+        Some(name) => name == "application/json",
+        None => false,
+    }
+}
+
+/// Returns whether an object has the media type of JSON.
+fn is_of_json(object: &Map<String, Value>) -> bool
+    ensures json { result ≡ is_json_type (media_type_in object.now) }
+{
+    match value_in(object, "contentMediaType") {
+        Some(value) => is_json_name(value.as_str()),
+        None => false,
+    }
+}
+
+/// Makes `contentEncoding` with no media type of JSON beside it.
 fn encoding_made(value: &Value) -> Made
     ensures made { formed shape_of result ≡ encoding_made (as_str (view value.now)) }
 {
@@ -189,19 +204,24 @@ fn encoding_made(value: &Value) -> Made
     }
 }
 
+/// Makes `contentEncoding`, unless the media type beside it makes one keyword for both.
+fn encoding_beside(object: &Map<String, Value>, value: &Value) -> Made
+    ensures made { formed shape_of result ≡ encoding_beside (media_type_in object.now) (as_str (view value.now)) }
+{
+    if is_of_json(object) {
+        ObjectKeyword::Nothing
+    } else {
+        encoding_made(value)
+    }
+}
+
 /// Makes `contentMediaType` or `contentEncoding`.
 fn contents_made(keyword: BuiltinKeyword, value: &Value, object: &Map<String, Value>) -> Made
     ensures made { formed shape_of result ≡ contents_made (fields object.now) (builtin_text keyword) (view value.now) }
 {
     match keyword {
         BuiltinKeyword::ContentMediaType => media_type_made(object, value),
-        BuiltinKeyword::ContentEncoding => {
-            if value_in(object, "contentMediaType").is_none() {
-                encoding_made(value)
-            } else {
-                ObjectKeyword::Nothing
-            }
-        }
+        BuiltinKeyword::ContentEncoding => encoding_beside(object, value),
         BuiltinKeyword::TypeKeyword
         | BuiltinKeyword::Const
         | BuiltinKeyword::Enum
@@ -297,8 +317,8 @@ fn member_maker(
 /// A table of `format`, `contentEncoding` and `contentMediaType`.
 ///
 /// It makes `format` if the compiler says that formats are checked: up to draft 7 always, and later
-/// if a vocabulary or an option says so. It makes `contentEncoding` and `contentMediaType` in
-/// drafts 6 and 7. The table owns no name.
+/// if a vocabulary or an option says so. It makes `contentEncoding` and `contentMediaType` in draft
+/// 7. The table owns no name.
 #[derive(Drop)]
 pub struct FormatTable {}
 

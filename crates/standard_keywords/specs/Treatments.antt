@@ -57,8 +57,7 @@ abbrev pub gated_names : List Text
 gated_names = codes "patternProperties" ∷ codes "additionalProperties" ∷ []
 
 -- the keywords that `standard_formats` makes: `format`, which asserts if formats are checked
--- (Validation 2020-12, 7), and two that assert in drafts 6 and 7 (draft 7, 8.3 and 8.4), but not
--- later
+-- (Validation 2020-12, 7), and two that assert in draft 7 alone (draft 7, 8.3 and 8.4)
 abbrev pub formatted_names : List Text
 formatted_names = codes "format" ∷ codes "contentEncoding" ∷ codes "contentMediaType" ∷ []
 
