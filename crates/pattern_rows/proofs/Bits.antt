@@ -1,5 +1,5 @@
 -- The bits of words.
-use Rattle.std.proofs.Common.{◌≡◌, ◌<◌, ◌≤◌, ◌==◌, ◌&&◌, ◌||◌, not, ◌^◌, ◌*◌, ◌%◌, ◌/◌, ◌+◌, ◌-◌, ℕ, Bool, true, false, zero, suc, cond, ap, refl, subst, sym, ◌∙◌, div-one, w64, bit_and, bit_or, arith, max, min, nat_lt}
+use Rattle.std.proofs.Common.{◌≡◌, ◌<◌, ◌≤◌, ◌==◌, ◌&&◌, ◌||◌, not, ◌^◌, ◌*◌, ◌%◌, ◌/◌, ◌+◌, ◌-◌, ℕ, Bool, true, false, zero, suc, cond, ap, refl, subst, sym, ◌∙◌, div-one, w64, bit_and, bit_or, arith, max, min, nat_le, nat_lt, ◌≢◌, true≢false}
 use Rattle.std.specs.Int.{bit_at, bit_not}
 use Rattle.std.proofs.lemmas.Bool.{eqb-false, eqb-true}
 use Rattle.std.proofs.lemmas.Bool.Decides.{nat_tests}
@@ -127,3 +127,107 @@ some_bit a small some =
 
 pub no_bit_of_zero : (k : ℕ) → (bit_at 0 k == 1) ≡ false
 no_bit_of_zero k = ap (λ (n : ℕ). n == 1) (bit_at-zero k)
+
+-- ---- spans of bits
+
+bits_before : (lt same none le : Bool) → none ≡ false → (same ≡ true → (lt ≡ true) × (le ≡ true)) → (same ≡ false → lt ≡ not le) → (lt && not (cond same true none)) ≡ not le
+bits_before true true z true e there other = refl
+bits_before true true z false e there other = absurd (true≢false (sym (there refl).1))
+bits_before false true z le e there other = absurd (true≢false (sym (there refl).0))
+bits_before lt false true le e there other = absurd (true≢false e)
+bits_before true false false le e there other = other refl
+bits_before false false false le e there other = other refl
+
+lt_same : (k first : ℕ) → k ≡ first → nat_lt k (first + 1) ≡ true
+lt_same k first h = grind (arith, nat_tests)
+
+le_same : (k first : ℕ) → k ≡ first → nat_le first k ≡ true
+le_same k first h = grind (arith, nat_tests)
+
+lt_other : (k first : ℕ) → k ≢ first → nat_lt k (first + 1) ≡ not (nat_le first k)
+lt_other k first off = go (nat_le first k) refl
+  where
+    go : (x : Bool) → nat_le first k ≡ x → nat_lt k (first + 1) ≡ not x
+    go true e = let le : first ≤ k = grind (arith, nat_tests) in let ge : first + 1 ≤ k = omega arith in grind (arith, nat_tests)
+    go false e = let lt : k < first = grind (arith, nat_tests) in let less : k < first + 1 = omega arith in grind (arith, nat_tests)
+
+lt_next : (k last : ℕ) → nat_lt k (last + 1) ≡ nat_le k last
+lt_next k last = go (nat_le k last) refl
+  where
+    go : (x : Bool) → nat_le k last ≡ x → nat_lt k (last + 1) ≡ x
+    go true e = let le : k ≤ last = grind (arith, nat_tests) in let less : k < last + 1 = omega arith in grind (arith, nat_tests)
+    go false e = let lt : last < k = grind (arith, nat_tests) in let ge : last + 1 ≤ k = omega arith in grind (arith, nat_tests)
+
+turned_and : (a b : Bool) → (a && not (not b)) ≡ (b && a)
+turned_and true true = refl
+turned_and true false = refl
+turned_and false true = refl
+turned_and false false = refl
+
+pub span_bit : (first last k : ℕ) → (nat_lt k (last + 1) && not (nat_lt k (first + 1) && not (cond (k == first) true (bit_at 0 k == 1)))) ≡ (nat_le first k && nat_le k last)
+span_bit first last k =
+    let before = bits_before (nat_lt k (first + 1)) (k == first) (bit_at 0 k == 1) (nat_le first k) (no_bit_of_zero k)
+    (λ e. (lt_same k first (eqb-true k first e), le_same k first (eqb-true k first e))) (λ e. lt_other k first (eqb-false k first e)) in
+    ap (λ (b : Bool). nat_lt k (last + 1) && not b) before ∙ turned_and (nat_lt k (last + 1)) (nat_le first k) ∙ ap (λ (b : Bool). nat_le first k && b) (lt_next k last)
+
+-- no position stands from a first to a last one before it
+no_span : (first last k : ℕ) → last < first → (nat_le first k && nat_le k last) ≡ false
+no_span first last k less = go (nat_le first k) (nat_le k last) refl refl
+  where
+    go : (x y : Bool) → nat_le first k ≡ x → nat_le k last ≡ y → (x && y) ≡ false
+    go false y e f = refl
+    go true false e f = refl
+    go true true e f = let a : first ≤ k = grind (arith, nat_tests) in let b : k ≤ last = grind (arith, nat_tests) in absurd (omega arith)
+
+or_false : (a b : Bool) → b ≡ false → a ≡ (a || b)
+or_false true b e = refl
+or_false false b e = sym e
+
+pub no_span_bit : (a : Bool) (first last k : ℕ) → last < first → a ≡ (a || (nat_le first k && nat_le k last))
+no_span_bit a first last k less = or_false a (nat_le first k && nat_le k last) (no_span first last k less)
+
+-- a span that grows by one position
+pub span_grows : (a : Bool) (first at k : ℕ) → first ≤ at → cond (k == at) true (a || (nat_le first k && nat_lt k at)) ≡ (a || (nat_le first k && nat_lt k (at + 1)))
+span_grows a first at k le = go (k == at) refl
+  where
+    or_all : (b : Bool) → b ≡ true → true ≡ (a || b)
+    or_all b e = grind (arith, nat_tests)
+
+    inside : k ≡ at → (nat_le first k && nat_lt k (at + 1)) ≡ true
+    inside e = let one : nat_le first k ≡ true = grind (arith, nat_tests) in let two : nat_lt k (at + 1) ≡ true = grind (arith, nat_tests) in rw (one, two) refl
+
+    other : k ≢ at → nat_lt k at ≡ nat_lt k (at + 1)
+    other off = by (nat_lt k at) refl
+      where
+        by : (x : Bool) → nat_lt k at ≡ x → x ≡ nat_lt k (at + 1)
+        by true e = let lt : k < at = grind (arith, nat_tests) in let less : k < at + 1 = omega arith in grind (arith, nat_tests)
+        by false e = let ge : at ≤ k = grind (arith, nat_tests) in let more : at + 1 ≤ k = omega arith in grind (arith, nat_tests)
+
+    go : (x : Bool) → (k == at) ≡ x → cond x true (a || (nat_le first k && nat_lt k at)) ≡ (a || (nat_le first k && nat_lt k (at + 1)))
+    go true e = or_all (nat_le first k && nat_lt k (at + 1)) (inside (eqb-true k at e))
+    go false e = ap (λ (b : Bool). a || (nat_le first k && b)) (other (eqb-false k at e))
+
+pub span_begins : (a : Bool) (first k : ℕ) → a ≡ (a || (nat_le first k && nat_lt k first))
+span_begins a first k = or_false a (nat_le first k && nat_lt k first) (go (nat_le first k) (nat_lt k first) refl refl)
+  where
+    go : (x y : Bool) → nat_le first k ≡ x → nat_lt k first ≡ y → (x && y) ≡ false
+    go false y e f = refl
+    go true false e f = refl
+    go true true e f = let a : first ≤ k = grind (arith, nat_tests) in let b : k < first = grind (arith, nat_tests) in absurd (omega arith)
+
+pub span_ends : (first last at k : ℕ) → last + 1 ≤ at → at ≤ max first (last + 1) → (nat_le first k && nat_lt k at) ≡ (nat_le first k && nat_le k last)
+span_ends first last at k past few = go (nat_le first k) refl
+  where
+    within : first ≤ k → nat_lt k at ≡ nat_le k last
+    within h = by (nat_le k last) refl
+      where
+        by : (x : Bool) → nat_le k last ≡ x → nat_lt k at ≡ x
+        by true e = let le : k ≤ last = grind (arith, nat_tests) in let less : k < at = omega arith in grind (arith, nat_tests)
+        by false e =
+            let lt : last < k = grind (arith, nat_tests) in
+            let ge : at ≤ k = omega arith in
+            grind (arith, nat_tests)
+
+    go : (x : Bool) → nat_le first k ≡ x → (x && nat_lt k at) ≡ (x && nat_le k last)
+    go false e = refl
+    go true e = within (grind (arith, nat_tests))

@@ -5,4 +5,4 @@ mod row;
 mod word;
 
 pub use row::Row;
-pub use word::{both, either, lowest, ones, with, without};
+pub use word::{both, either, lowest, ones, with, with_span, without};

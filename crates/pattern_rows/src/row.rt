@@ -102,6 +102,18 @@ impl Row {
         }
     }
 
+    /// Puts all positions from a first to a last one into the set.
+    pub fn put_span(&mut self, first: usize, last: usize)
+        requires within { last / 64 ≤ width self.old }
+        requires small { width self.old < 2 ^ 57 }
+        ensures put { (k : ℕ) → has self.new k ≡ (has self.old k || (nat_le first k && nat_le k last)) }
+        ensures width { width self.new ≡ width self.old }
+    {
+        'span: for position in first..last + 1 {
+            self.put(position);
+        }
+    }
+
     /// Returns the first position of the set from one on.
     pub fn next(&self, from: usize) -> Option<usize>
         requires small { width self.now < 2 ^ 58 }

@@ -1,5 +1,5 @@
 //! Words of 64 bits.
-ghost use Rattle.std.specs.Prelude.{◌≡◌, ◌<◌, ◌≤◌, ◌==◌, ◌&&◌, ◌||◌, not, ℕ, MatchOption, true, false, if◌then◌else◌, nat_lt};
+ghost use Rattle.std.specs.Prelude.{◌≡◌, ◌<◌, ◌≤◌, ◌==◌, ◌&&◌, ◌||◌, not, ℕ, MatchOption, true, false, if◌then◌else◌, nat_le, nat_lt};
 ghost use Rattle.std.specs.Int.{bit_at};
 
 /// Returns a word whose lowest bits are set, so many of them.
@@ -43,6 +43,23 @@ pub fn with(a: u64, bit: usize) -> u64
     ensures bits { (k : ℕ) → (bit_at result k == 1) ≡ (if k == bit then true else bit_at a k == 1) }
 {
     a | (1u64 << bit)
+}
+
+/// Returns the word with all bits set from a first to a last one.
+#[inline(always)]
+pub fn with_span(a: u64, first: usize, last: usize) -> u64
+    requires within { last < 64 }
+    ensures bits { (k : ℕ) → (bit_at result k == 1) ≡ ((bit_at a k == 1) || (nat_le first k && nat_le k last)) }
+{
+    if last < first {
+        return a;
+    }
+    let to_first = ones(first + 1);
+    let at_first = with(0, first);
+    let before = without(to_first, at_first);
+    let to_last = ones(last + 1);
+    let span = without(to_last, before);
+    either(a, span)
 }
 
 /// Returns the lowest bit from one on, if there is one.

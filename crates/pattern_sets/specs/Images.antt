@@ -1,5 +1,5 @@
 -- Where a pattern leads from a set of positions.
-use Rattle.std.specs.Prelude.{◌≡◌, ◌<◌, ◌||◌, ℕ, Bool, true, false, List, Option, length, slice_index, ◌==◌}
+use Rattle.std.specs.Prelude.{◌≡◌, ◌<◌, ◌≤◌, ◌+◌, ◌||◌, ℕ, Bool, true, false, List, Option, None, Some, length, slice_index, ◌==◌}
 use Rattle.std.specs.Int.{bit_at}
 use Rattle.pattern_rows.specs.declared.row.Row.{Row}
 use Rattle.pattern_rows.specs.Rows.{has, width}
@@ -49,6 +49,19 @@ Steps most R i j = (n : ℕ) × IsWithin n most × Iterates R n i j
 abbrev pub IsTaken : List (ℕ × ℕ) → List ℕ → ℕ → Type 0
 IsTaken set text i = (i < length text) × (in_set set (slice_index text i) ≡ true)
 
+-- all characters from one position to another are in a set
+abbrev pub Runs : List (ℕ × ℕ) → List ℕ → ℕ → ℕ → Type 0
+Runs set text i j = (i ≤ j) × ((k : ℕ) → i ≤ k → k < j → IsTaken set text k)
+
+-- so, and they are so many at least and so many at most
+abbrev pub RunsFor : List (ℕ × ℕ) → List ℕ → ℕ → ℕ → ℕ → ℕ → Type 0
+RunsFor set text least most i j = Runs set text i j × (i + least ≤ j) × (j ≤ i + most)
+
+-- how many turns there may be, where no run is longer
+abbrev pub most_within : ℕ → Option ℕ → ℕ
+most_within longest None = longest
+most_within longest (Some more) = more
+
 -- a position of a word
 abbrev pub in_word : ℕ → ℕ → Bool
 in_word word k = bit_at word k == 1
@@ -56,3 +69,7 @@ in_word word k = bit_at word k == 1
 -- a set of at most one position
 abbrev pub IsOne : (ℕ → Bool) → Type 0
 IsOne from = (x y : ℕ) → from x ≡ true → from y ≡ true → x ≡ y
+
+-- a pattern that matches the empty text at each position
+abbrev pub MatchesEmpty : Pattern → Type 0
+MatchesEmpty p = (text : List ℕ) (i : ℕ) → Matches p text i i

@@ -5,6 +5,7 @@ mod at_position;
 mod matching;
 mod row_steps;
 mod row_walks;
+mod runs;
 mod turns;
 mod word_steps;
 mod word_walks;

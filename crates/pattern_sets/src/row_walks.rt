@@ -6,8 +6,8 @@ ghost use Rattle.pattern_trees.specs.Trees.{pattern_of};
 ghost use Rattle.pattern_rows.specs.Rows.{has, width};
 ghost use Rattle.pattern_sets.specs.Images.{IsOne, Joined, Leaves, Spreads, Steps, Walks, leads};
 
-use crate::row_steps::{OutOfMemory, keep_edges, run, step_back, step_on};
-use crate::turns::more_turns;
+use crate::row_steps::{OutOfMemory, keep_edges, run, step_back, step_on, times_on};
+use crate::turns::{matches_empty, more_turns};
 use pattern_rows::Row;
 use pattern_trees::Tree;
 use std::alloc::Global;
@@ -215,10 +215,54 @@ fn walk_times(
     requires short { length text.now < 2 ^ 60 }
     ensures walks { IfOk result (Walks forward (Repeat least more (pattern_of (node_of body.now))) text.now from) }
 {
-    let after = walk_exactly(alloc, least, body, text, forward, from)?;
+    match body {
+        Tree::OneOf(set) if forward => times_on(alloc, set, text, least, more, &from),
+        _ => walk_turns(alloc, least, more, body, text, forward, from),
+    }
+}
+
+// Returns the same, turn by turn.
+#[cycle(walk)]
+fn walk_turns(
+    alloc: Global,
+    least: u32,
+    more: Option<u32>,
+    body: &Tree,
+    text: &[char],
+    forward: bool,
+    from: Row,
+) -> Result<Row, OutOfMemory>
+    requires sized { width from ≡ length text.now / 64 }
+    requires short { length text.now < 2 ^ 60 }
+    ensures walks { IfOk result (Walks forward (Repeat least more (pattern_of (node_of body.now))) text.now from) }
+{
+    let after = walk_least(alloc, least, body, text, forward, from)?;
     match more {
         None => Ok(walk_any(alloc, body, text, forward, after)?),
         Some(most) => Ok(walk_at_most(alloc, most, body, text, forward, after)?),
+    }
+}
+
+// Returns where so many steps lead.
+//
+// If a step may take nothing, so do fewer steps.
+#[cycle(walk)]
+fn walk_least(
+    alloc: Global,
+    count: u32,
+    body: &Tree,
+    text: &[char],
+    forward: bool,
+    from: Row,
+) -> Result<Row, OutOfMemory>
+    requires sized { width from ≡ length text.now / 64 }
+    requires short { length text.now < 2 ^ 60 }
+    ensures leaves { IfOk result (Leaves (Iterates (leads forward (pattern_of (node_of body.now)) text.now) count) from) }
+{
+    if matches_empty(body) {
+        Ok(walk_at_most(alloc, count, body, text, forward, from)?)
+    } else {
+        Ok(walk_exactly(alloc, count, body, text, forward, from)?)
     }
 }
 

@@ -1,10 +1,12 @@
 //! One step of a pattern on words, and any number of steps over one set.
-ghost use Rattle.std.specs.Prelude.{◌≡◌, ◌<◌, ◌≤◌, ◌+◌, ◌-◌, ◌==◌, ◌&&◌, ◌||◌, ℕ, Some, None, MatchOption, length, true, false, nat_le};
-ghost use Rattle.pattern_trees.specs.Patterns.{At, One};
-ghost use Rattle.pattern_sets.specs.Images.{IsImage, IsTaken, Steps, in_word, leads};
+ghost use Rattle.std.specs.Prelude.{◌≡◌, ◌<◌, ◌≤◌, ◌+◌, ◌-◌, ◌==◌, ◌&&◌, ◌||◌, ◌^◌, ℕ, Some, None, MatchOption, length, true, false, nat_le};
+ghost use Rattle.pattern_trees.specs.Patterns.{At, One, Repeat};
+ghost use Rattle.pattern_sets.specs.Images.{IsImage, IsTaken, RunsFor, Steps, in_word, leads};
 
 use crate::at_position::{is_at, takes};
-use pattern_rows::{both, lowest, ones, with};
+use crate::runs::{after_run, run_end};
+use crate::turns::most_turns;
+use pattern_rows::{both, lowest, ones, with, with_span};
 use pattern_trees::{CharSet, Edge};
 
 /// Returns the next position of a word from one on.
@@ -85,6 +87,35 @@ pub fn step_back(set: &CharSet, text: &[char], from: u64) -> u64
         i = m + 1;
     }
     to
+}
+
+// Returns where runs of characters of a set lead, on, of a least and a greatest length.
+fn runs_on(set: &CharSet, text: &[char], least: usize, most: usize, from: u64) -> u64
+    requires short { length text.now < 64 }
+    requires ordered { least ≤ most }
+    requires few { most < 2 ^ 62 }
+    ensures runs { IsImage (RunsFor set.now.spans.items text.now least most) (in_word from) (in_word result) }
+{
+    let mut to = 0u64;
+    let mut end = 0;
+    let mut i = 0;
+    'steps: while let Some(m) = next(from, i) {
+        let start = m.max(end);
+        let stop = (m + most).min(text.len());
+        end = run_end(set, text, start, stop);
+        to = with_span(to, m + least, end);
+        i = after_run(m, end, most);
+    }
+    to
+}
+
+/// Returns where so many characters of a set lead, on, and up to so many more.
+pub fn times_on(set: &CharSet, text: &[char], least: u32, more: Option<u32>, from: u64) -> u64
+    requires short { length text.now < 64 }
+    ensures walks { IsImage (leads true (Repeat least more (One set.now.spans.items)) text.now) (in_word from) (in_word result) }
+{
+    let most = most_turns(least, more, text.len());
+    runs_on(set, text, least as usize, most, from)
 }
 
 // Returns where any number of characters of a set lead, on.

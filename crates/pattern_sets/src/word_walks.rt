@@ -6,7 +6,7 @@ ghost use Rattle.pattern_trees.specs.Trees.{pattern_of};
 ghost use Rattle.pattern_sets.specs.Images.{IsImage, IsOne, Joined, Spreads, Steps, in_word, leads};
 
 use crate::turns::more_turns;
-use crate::word_steps::{all, keep_edges, next, run, step_back, step_on};
+use crate::word_steps::{all, keep_edges, next, run, step_back, step_on, times_on};
 use pattern_rows::{both, either, without};
 use pattern_trees::Tree;
 
@@ -132,6 +132,25 @@ fn word_look(ahead: bool, wanted: bool, body: &Tree, text: &[char], forward: boo
 // Returns where a repetition leads.
 #[cycle(word_walk)]
 fn word_times(
+    least: u32,
+    more: Option<u32>,
+    body: &Tree,
+    text: &[char],
+    forward: bool,
+    from: u64,
+) -> u64
+    requires short { length text.now < 64 }
+    ensures walks { IsImage (leads forward (Repeat least more (pattern_of (node_of body.now))) text.now) (in_word from) (in_word result) }
+{
+    match body {
+        Tree::OneOf(set) if forward => times_on(set, text, least, more, from),
+        _ => word_turns(least, more, body, text, forward, from),
+    }
+}
+
+// Returns the same, turn by turn.
+#[cycle(word_walk)]
+fn word_turns(
     least: u32,
     more: Option<u32>,
     body: &Tree,

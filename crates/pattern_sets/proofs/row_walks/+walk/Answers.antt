@@ -5,6 +5,7 @@ use Rattle.pattern_sets.specs.Images.{leads}
 use Rattle.pattern_trees.specs.Nodes.{node_of}
 use Rattle.pattern_trees.specs.Trees.{pattern_of}
 use Rattle.pattern_sets.proofs.Leading.{or_left, or_right}
+use Rattle.pattern_sets.proofs.Emptiness.{exact_by_most}
 use Rattle.pattern_sets.proofs.Reaching.{exact_fixed, exact_goes_on, image_as, image_from, missing_less, reached_ends, reached_goes_on, within_ends, within_goes_on}
 use Rattle.pattern_sets.proofs.Walking.{either_image, look_unwanted, look_wanted, peek_unwanted_none, peek_wanted_none, peeking, repeat_image}
 use Rattle.pattern_sets.proofs.row_walks.+walk.Goals as goal
@@ -169,8 +170,8 @@ walk_exactly-rounds-preserved t c =
           (image_from R (has c.in_ok-copy.field-0) (has c.rounds.at) (has c.in_ok-led.led) copied.same c.in_ok-led.ensures.walks.image);
     }
 
-pub walk_times-returns-in_ok-walk_any-in-None : goal.walk_times-returns-in_ok-walk_any-in-None
-walk_times-returns-in_ok-walk_any-in-None t c =
+pub walk_turns-returns-in_ok-walk_any-in-None : goal.walk_turns-returns-in_ok-walk_any-in-None
+walk_turns-returns-in_ok-walk_any-in-None t c =
     let after = c.in_ok-after.ensures.leaves in
     let all = c.in_ok-walk_any-in-None.ensures.leaves in
     let a = after.width in
@@ -185,8 +186,8 @@ walk_times-returns-in_ok-walk_any-in-None t c =
           });
     }
 
-pub walk_times-returns-in_ok-walk_at_most-in-Some : goal.walk_times-returns-in_ok-walk_at_most-in-Some
-walk_times-returns-in_ok-walk_at_most-in-Some t c =
+pub walk_turns-returns-in_ok-walk_at_most-in-Some : goal.walk_turns-returns-in_ok-walk_at_most-in-Some
+walk_turns-returns-in_ok-walk_at_most-in-Some t c =
     let after = c.in_ok-after.ensures.leaves in
     let all = c.in_ok-walk_at_most-in-Some.ensures.leaves in
     let a = after.width in
@@ -233,4 +234,15 @@ walk_peek-returns-else-wanted t c =
         image = peek_unwanted_none c.args.forward c.args.ahead p text from led near from (peeking c.args.ahead p text from led near (has c.in_ok-all.all) one image c.meet.ensures.both c.in_ok-all.ensures.all) (c.is_empty.ensures.empty c.if-is_empty.true) (λ k. refl);
         width = refl;
       });
+    }
+
+pub walk_least-returns-in_ok-walk_at_most : goal.walk_least-returns-in_ok-walk_at_most
+walk_least-returns-in_ok-walk_at_most t c =
+    let leaves = c.in_ok-walk_at_most.ensures.leaves in
+    record {
+      leaves = record {
+        image = exact_by_most c.args.forward (pattern_of (node_of c.args.body.now)) c.args.text.now c.args.count (has c.args.from) (has c.in_ok-walk_at_most.field-0)
+            (c.matches_empty.ensures.empty c.if-matches_empty.true) leaves.image;
+        width = leaves.width;
+      };
     }

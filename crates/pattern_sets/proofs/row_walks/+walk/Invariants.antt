@@ -36,34 +36,40 @@ invariant-walk_exactly-rounds l = record {
 }
 
 abbrev pub decreases-walk : goal.decreases-walk
-decreases-walk l = 5 * size-Tree l.tree.now + 1
+decreases-walk l = 7 * size-Tree l.tree.now + 1
 
 abbrev pub decreases-lead : goal.decreases-lead
-decreases-lead l = 5 * size-Tree l.tree.now
+decreases-lead l = 7 * size-Tree l.tree.now
 
 abbrev pub decreases-walk_both : goal.decreases-walk_both
-decreases-walk_both l = 5 * max (size-Tree l.a.now) (size-Tree l.b.now) + 2
+decreases-walk_both l = 7 * max (size-Tree l.a.now) (size-Tree l.b.now) + 2
 
 abbrev pub decreases-walk_choice : goal.decreases-walk_choice
-decreases-walk_choice l = 5 * max (size-Tree l.a.now) (size-Tree l.b.now) + 2
+decreases-walk_choice l = 7 * max (size-Tree l.a.now) (size-Tree l.b.now) + 2
 
 abbrev pub decreases-walk_look : goal.decreases-walk_look
-decreases-walk_look l = 5 * size-Tree l.body.now + 3
+decreases-walk_look l = 7 * size-Tree l.body.now + 3
 
 abbrev pub decreases-walk_peek : goal.decreases-walk_peek
-decreases-walk_peek l = 5 * size-Tree l.body.now + 2
+decreases-walk_peek l = 7 * size-Tree l.body.now + 2
 
 abbrev pub decreases-walk_times : goal.decreases-walk_times
-decreases-walk_times l = 5 * size-Tree l.body.now + 4
+decreases-walk_times l = 7 * size-Tree l.body.now + 6
+
+abbrev pub decreases-walk_turns : goal.decreases-walk_turns
+decreases-walk_turns l = 7 * size-Tree l.body.now + 5
+
+abbrev pub decreases-walk_least : goal.decreases-walk_least
+decreases-walk_least l = 7 * size-Tree l.body.now + 4
 
 abbrev pub decreases-walk_exactly : goal.decreases-walk_exactly
-decreases-walk_exactly l = 5 * size-Tree l.body.now + 2
+decreases-walk_exactly l = 7 * size-Tree l.body.now + 2
 
 abbrev pub decreases-walk_any : goal.decreases-walk_any
-decreases-walk_any l = 5 * size-Tree l.body.now + 3
+decreases-walk_any l = 7 * size-Tree l.body.now + 3
 
 abbrev pub decreases-walk_at_most : goal.decreases-walk_at_most
-decreases-walk_at_most l = 5 * size-Tree l.body.now + 3
+decreases-walk_at_most l = 7 * size-Tree l.body.now + 3
 
 abbrev pub decreases-walk_spread : goal.decreases-walk_spread
-decreases-walk_spread l = 5 * size-Tree l.body.now + 2
+decreases-walk_spread l = 7 * size-Tree l.body.now + 2

@@ -110,12 +110,12 @@ pub word_look-returns-else-wanted : goal.word_look-returns-else-wanted
 word_look-returns-else-wanted t c =
     record { walks = rw c.if-wanted.false (look_unwanted c.args.forward c.args.ahead (pattern_of (node_of c.args.body.now)) c.args.text.now (in_word c.args.from) (in_word c.all.result) (in_word c.word_walk-found.result) (in_word c.without.result) c.all.ensures.all c.word_walk-found.ensures.walks c.without.ensures.bits) }
 
-pub word_times-returns-in-None : goal.word_times-returns-in-None
-word_times-returns-in-None t c =
+pub word_turns-returns-in-None : goal.word_turns-returns-in-None
+word_turns-returns-in-None t c =
     record { walks = rw c.in-None.is (repeat_image c.args.forward c.args.least None (pattern_of (node_of c.args.body.now)) c.args.text.now (in_word c.args.from) (in_word c.word_exactly-after.result) (in_word c.word_any.result) c.word_exactly-after.ensures.leaves c.word_any.ensures.leaves) }
 
-pub word_times-returns-in-Some : goal.word_times-returns-in-Some
-word_times-returns-in-Some t c =
+pub word_turns-returns-in-Some : goal.word_turns-returns-in-Some
+word_turns-returns-in-Some t c =
     record { walks = rw c.in-Some.is (repeat_image c.args.forward c.args.least (Some c.in-Some.most) (pattern_of (node_of c.args.body.now)) c.args.text.now (in_word c.args.from) (in_word c.word_exactly-after.result) (in_word c.word_at_most.result) c.word_exactly-after.ensures.leaves c.word_at_most.ensures.leaves) }
 
 pub word_peek-returns-then-wanted : goal.word_peek-returns-then-wanted

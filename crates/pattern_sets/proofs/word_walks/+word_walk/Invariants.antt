@@ -23,34 +23,37 @@ abbrev pub invariant-word_exactly-rounds : goal.invariant-word_exactly-rounds
 invariant-word_exactly-rounds l = IsImage (Iterates (leads l.forward (pattern_of (node_of l.body)) l.text) l._round) (in_word l.fn.from) (in_word l.at)
 
 abbrev pub decreases-word_walk : goal.decreases-word_walk
-decreases-word_walk l = 5 * size-Tree l.tree.now + 1
+decreases-word_walk l = 6 * size-Tree l.tree.now + 1
 
 abbrev pub decreases-word_lead : goal.decreases-word_lead
-decreases-word_lead l = 5 * size-Tree l.tree.now
+decreases-word_lead l = 6 * size-Tree l.tree.now
 
 abbrev pub decreases-word_both : goal.decreases-word_both
-decreases-word_both l = 5 * max (size-Tree l.a.now) (size-Tree l.b.now) + 2
+decreases-word_both l = 6 * max (size-Tree l.a.now) (size-Tree l.b.now) + 2
 
 abbrev pub decreases-word_choice : goal.decreases-word_choice
-decreases-word_choice l = 5 * max (size-Tree l.a.now) (size-Tree l.b.now) + 2
+decreases-word_choice l = 6 * max (size-Tree l.a.now) (size-Tree l.b.now) + 2
 
 abbrev pub decreases-word_look : goal.decreases-word_look
-decreases-word_look l = 5 * size-Tree l.body.now + 3
+decreases-word_look l = 6 * size-Tree l.body.now + 3
 
 abbrev pub decreases-word_peek : goal.decreases-word_peek
-decreases-word_peek l = 5 * size-Tree l.body.now + 2
+decreases-word_peek l = 6 * size-Tree l.body.now + 2
 
 abbrev pub decreases-word_times : goal.decreases-word_times
-decreases-word_times l = 5 * size-Tree l.body.now + 4
+decreases-word_times l = 6 * size-Tree l.body.now + 5
+
+abbrev pub decreases-word_turns : goal.decreases-word_turns
+decreases-word_turns l = 6 * size-Tree l.body.now + 4
 
 abbrev pub decreases-word_exactly : goal.decreases-word_exactly
-decreases-word_exactly l = 5 * size-Tree l.body.now + 2
+decreases-word_exactly l = 6 * size-Tree l.body.now + 2
 
 abbrev pub decreases-word_any : goal.decreases-word_any
-decreases-word_any l = 5 * size-Tree l.body.now + 3
+decreases-word_any l = 6 * size-Tree l.body.now + 3
 
 abbrev pub decreases-word_at_most : goal.decreases-word_at_most
-decreases-word_at_most l = 5 * size-Tree l.body.now + 3
+decreases-word_at_most l = 6 * size-Tree l.body.now + 3
 
 abbrev pub decreases-word_spread : goal.decreases-word_spread
-decreases-word_spread l = 5 * size-Tree l.body.now + 2
+decreases-word_spread l = 6 * size-Tree l.body.now + 2
