@@ -1,0 +1,6 @@
+pub mod Closeness
+pub mod Division
+pub mod Exponents
+pub mod Reading
+pub mod Uniqueness
+pub mod Worths

@@ -1,0 +1,5 @@
+pub mod Amounts
+pub mod Decimals
+pub mod Kinds
+pub mod Multiples
+pub mod Searches
