@@ -124,38 +124,8 @@ fn leads_back(set: &CharSet, text: &[char], row: &Row, position: usize) -> bool
     row.has(position) && takes(set, text, position - 1)
 }
 
-/// Returns where any number of characters of a set lead, on or back.
-pub fn run(set: &CharSet, text: &[char], forward: bool, from: Row) -> Row
-    requires sized { width from ≡ length text.now / 64 }
-    requires short { length text.now < 2 ^ 60 }
-    ensures leaves { Leaves (Steps None (leads forward (One set.now.spans.items) text.now)) from result }
-{
-    if forward {
-        run_on(set, text, from)
-    } else {
-        run_back(set, text, from)
-    }
-}
-
-// Returns where any number of characters of a set lead, on.
-fn run_on(set: &CharSet, text: &[char], from: Row) -> Row
-    requires sized { width from ≡ length text.now / 64 }
-    requires short { length text.now < 2 ^ 60 }
-    ensures leaves { Leaves (Steps None (leads true (One set.now.spans.items) text.now)) from result }
-{
-    let mut to = from;
-    let mut i = 0;
-    'steps: while let Some(m) = to.next(i) {
-        if takes(set, text, m) {
-            to.put(m + 1);
-        }
-        i = m + 1;
-    }
-    to
-}
-
-// Returns where any number of characters of a set lead, back.
-fn run_back(set: &CharSet, text: &[char], from: Row) -> Row
+/// Returns where any number of characters of a set lead, back.
+pub fn run_back(set: &CharSet, text: &[char], from: Row) -> Row
     requires sized { width from ≡ length text.now / 64 }
     requires short { length text.now < 2 ^ 60 }
     ensures leaves { Leaves (Steps None (leads false (One set.now.spans.items) text.now)) from result }

@@ -6,7 +6,7 @@ ghost use Rattle.pattern_trees.specs.Trees.{pattern_of};
 ghost use Rattle.pattern_rows.specs.Rows.{has, width};
 ghost use Rattle.pattern_sets.specs.Images.{IsOne, Joined, Leaves, Spreads, Steps, Walks, leads};
 
-use crate::row_steps::{OutOfMemory, keep_edges, run, step_back, step_on, times_on};
+use crate::row_steps::{OutOfMemory, keep_edges, run_back, step_back, step_on, times_on};
 use crate::turns::{matches_empty, more_turns};
 use pattern_rows::Row;
 use pattern_trees::Tree;
@@ -329,8 +329,10 @@ fn walk_any(
     requires short { length text.now < 2 ^ 60 }
     ensures leaves { IfOk result (Leaves (Steps None (leads forward (pattern_of (node_of body.now)) text.now)) from) }
 {
-    if let Tree::OneOf(set) = body {
-        return Ok(run(set, text, forward, from));
+    if !forward {
+        if let Tree::OneOf(set) = body {
+            return Ok(run_back(set, text, from));
+        }
     }
     let mut fresh = from.copy()?;
     let mut all = from;

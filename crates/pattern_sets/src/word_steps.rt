@@ -118,22 +118,6 @@ pub fn times_on(set: &CharSet, text: &[char], least: u32, more: Option<u32>, fro
     runs_on(set, text, least as usize, most, from)
 }
 
-// Returns where any number of characters of a set lead, on.
-fn run_on(set: &CharSet, text: &[char], from: u64) -> u64
-    requires short { length text.now < 64 }
-    ensures leaves { IsImage (Steps None (leads true (One set.now.spans.items) text.now)) (in_word from) (in_word result) }
-{
-    let mut to = from;
-    let mut i = 0;
-    'steps: while let Some(m) = next(to, i) {
-        if takes(set, text, m) {
-            to = with(to, m + 1);
-        }
-        i = m + 1;
-    }
-    to
-}
-
 // Returns whether a position is in a word, and the character before it in a set.
 #[inline]
 fn leads_back(set: &CharSet, text: &[char], row: u64, position: usize) -> bool
@@ -145,8 +129,8 @@ fn leads_back(set: &CharSet, text: &[char], row: u64, position: usize) -> bool
     has(row, position) && takes(set, text, position - 1)
 }
 
-// Returns where any number of characters of a set lead, back.
-fn run_back(set: &CharSet, text: &[char], from: u64) -> u64
+/// Returns where any number of characters of a set lead, back.
+pub fn run_back(set: &CharSet, text: &[char], from: u64) -> u64
     requires short { length text.now < 64 }
     ensures leaves { IsImage (Steps None (leads false (One set.now.spans.items) text.now)) (in_word from) (in_word result) }
 {
@@ -159,18 +143,6 @@ fn run_back(set: &CharSet, text: &[char], from: u64) -> u64
         m -= 1;
     }
     to
-}
-
-/// Returns where any number of characters of a set lead, on or back.
-pub fn run(set: &CharSet, text: &[char], forward: bool, from: u64) -> u64
-    requires short { length text.now < 64 }
-    ensures leaves { IsImage (Steps None (leads forward (One set.now.spans.items) text.now)) (in_word from) (in_word result) }
-{
-    if forward {
-        run_on(set, text, from)
-    } else {
-        run_back(set, text, from)
-    }
 }
 
 // Returns the positions where an assertion holds, tried at each.

@@ -6,7 +6,7 @@ ghost use Rattle.pattern_trees.specs.Trees.{pattern_of};
 ghost use Rattle.pattern_sets.specs.Images.{IsImage, IsOne, Joined, Spreads, Steps, in_word, leads};
 
 use crate::turns::more_turns;
-use crate::word_steps::{all, keep_edges, next, run, step_back, step_on, times_on};
+use crate::word_steps::{all, keep_edges, next, run_back, step_back, step_on, times_on};
 use pattern_rows::{both, either, without};
 use pattern_trees::Tree;
 
@@ -67,8 +67,24 @@ fn word_both(a: &Tree, b: &Tree, text: &[char], forward: bool, from: u64) -> u64
     requires short { length text.now < 64 }
     ensures leaves { IsImage (Joined (leads forward (pattern_of (node_of a.now)) text.now) (leads forward (pattern_of (node_of b.now)) text.now)) (in_word from) (in_word result) }
 {
-    let mid = word_walk(a, text, forward, from);
+    let mid = word_first(a, text, forward, from);
     word_walk(b, text, forward, mid)
+}
+
+// Returns where the first of two patterns leads.
+//
+// Many are one character or an assertion, which take no call.
+#[inline(always)]
+#[cycle(word_walk)]
+fn word_first(tree: &Tree, text: &[char], forward: bool, from: u64) -> u64
+    requires short { length text.now < 64 }
+    ensures walks { IsImage (leads forward (pattern_of (node_of tree.now)) text.now) (in_word from) (in_word result) }
+{
+    match tree {
+        Tree::OneOf(set) if forward => step_on(set, text, from),
+        Tree::At(edge) => keep_edges(*edge, text, forward, from),
+        _ => word_walk(tree, text, forward, from),
+    }
 }
 
 // Returns where one of two patterns leads.
@@ -203,8 +219,10 @@ fn word_any(body: &Tree, text: &[char], forward: bool, from: u64) -> u64
     requires short { length text.now < 64 }
     ensures leaves { IsImage (Steps None (leads forward (pattern_of (node_of body.now)) text.now)) (in_word from) (in_word result) }
 {
-    if let Tree::OneOf(set) = body {
-        return run(set, text, forward, from);
+    if !forward {
+        if let Tree::OneOf(set) = body {
+            return run_back(set, text, from);
+        }
     }
     let mut fresh = from;
     let mut reached = from;

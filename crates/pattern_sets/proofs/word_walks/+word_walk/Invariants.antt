@@ -29,7 +29,10 @@ abbrev pub decreases-word_lead : goal.decreases-word_lead
 decreases-word_lead l = 6 * size-Tree l.tree.now
 
 abbrev pub decreases-word_both : goal.decreases-word_both
-decreases-word_both l = 6 * max (size-Tree l.a.now) (size-Tree l.b.now) + 2
+decreases-word_both l = 6 * max (size-Tree l.a.now) (size-Tree l.b.now) + 3
+
+abbrev pub decreases-word_first : goal.decreases-word_first
+decreases-word_first l = 6 * size-Tree l.tree.now + 2
 
 abbrev pub decreases-word_choice : goal.decreases-word_choice
 decreases-word_choice l = 6 * max (size-Tree l.a.now) (size-Tree l.b.now) + 2
