@@ -12,7 +12,8 @@ use lib.Pow.{pow_mono}
 use lib.Ieee.Positive.{den, den_pos, num}
 use Rattle.json_decimals.specs.Amounts.{one, units, IsAmountOf, IsReduced}
 use Rattle.json_decimals.specs.Decimals.{Fraction, decimal_or_exact, exact, short_power, size_of, size_of_integer}
-use Rattle.json_decimals.specs.Multiples.{divides}
+use Rattle.json_decimals.specs.Multiples.{divides, is_multiple_of}
+use Rattle.serde_json.specs.Find.{as_u64}
 use Rattle.json_decimals.specs.declared.amounts.Amount.{Amount}
 
 -- ---- the factors of five
@@ -135,3 +136,27 @@ unfolding float_is_finite float_with_sign
 below_is nan finite positive = absurd (true≢false (sym finite))
 below_is (inf s) finite positive = absurd (true≢false (sym finite))
 below_is (fin s m e) finite positive = ap (λ y. lt (fin s m e) y) top_is ∙ subst (λ y. lt y (fin false 1 (pos 64)) ≡ ltb (m * up e) (2 ^ 64 * down e)) positive (below_end m e)
+
+-- ---- two integers
+
+is_some : Option ℕ → Bool
+is_some None = false
+is_some (Some n) = true
+
+value_or_zero : Option ℕ → ℕ
+value_or_zero None = 0
+value_or_zero (Some n) = n
+
+natural_is : (v : Num) (n : ℕ) → Some n ≡ as_u64 v → v ≡ unsigned n
+unfolding is_some value_or_zero
+natural_is (unsigned m) n same = ap unsigned (sym (ap value_or_zero same))
+natural_is (negative z) n same = absurd (true≢false (ap is_some same))
+natural_is (float x) n same = absurd (true≢false (ap is_some same))
+
+pub naturals : (v w : Num) (n d : ℕ) → Some n ≡ as_u64 v → Some d ≡ as_u64 w → (n % d == 0) ≡ is_multiple_of v w
+unfolding is_multiple_of
+naturals v w n d number divisor =
+    let over : n * 1 ≡ n = omega arith in
+    let under : d * 1 ≡ d = omega arith in
+    let plain : is_multiple_of (unsigned n) (unsigned d) ≡ (n % d == 0) = ap (λ a. a % (d * 1) == 0) over ∙ ap (λ b. n % b == 0) under in
+    sym plain ∙ ap (λ a. is_multiple_of a (unsigned d)) (sym (natural_is v n number)) ∙ ap (is_multiple_of v) (sym (natural_is w d divisor))

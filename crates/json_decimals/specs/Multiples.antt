@@ -8,5 +8,5 @@ use Rattle.json_decimals.specs.Decimals.{Fraction, size_of}
 abbrev pub divides : Fraction → Fraction → Bool
 divides d x = (x.over * d.under) % (d.over * x.under) == 0
 
-abbrev pub is_multiple_of : Num → Num → Bool
+unfoldable pub is_multiple_of : Num → Num → Bool
 is_multiple_of x d = divides (size_of d) (size_of x)

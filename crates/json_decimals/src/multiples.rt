@@ -52,5 +52,8 @@ fn amount_of(number: &Number) -> Amount
 pub fn is_multiple_of(number: &Number, divisor: &Number) -> bool
     ensures multiple { result ≡ is_multiple_of (number_view number.now) (number_view divisor.now) }
 {
-    amount_of(number).is_multiple_of(amount_of(divisor))
+    match (number.as_u64(), divisor.as_u64()) {
+        (Some(n), Some(d)) if d > 0 => n % d == 0,
+        _ => amount_of(number).is_multiple_of(amount_of(divisor)),
+    }
 }
