@@ -58,6 +58,7 @@ impl Assertion {
     /// Returns whether the keyword holds of an instance.
     ///
     /// It allocates nothing. Therefore, `uniqueItems` compares each pair of items.
+    #[inline(always)]
     fn holds_by_pairs(&self, instance: Instance<'_>) -> bool
         ensures holds { result ≡ holds self.now (subject_of instance.entry) }
     {

@@ -107,6 +107,7 @@ impl<A: Validate, L: Validate, P: Validate, F: Validate, B: Validate> Validate
         }
     }
 
+    #[inline(always)]
     fn is_valid_at_once(&self, instance: Instance<'_>) -> Option<bool> {
         match self {
             Family::Assertion(keyword) => keyword.is_valid_at_once(instance),
@@ -117,6 +118,7 @@ impl<A: Validate, L: Validate, P: Validate, F: Validate, B: Validate> Validate
         }
     }
 
+    #[inline(always)]
     fn asking<'s, 'i>(&'s self, instance: Instance<'i>) -> Asking<'s, 'i> {
         match self {
             Family::Assertion(keyword) => keyword.asking(instance),
