@@ -1,14 +1,14 @@
 -- What a fault says: whether a text is no pattern or none that is supported, and what is wrong.
 use Rattle.std.specs.Prelude.{ℕ, codes, List}
 use Rattle.pattern_characters.specs.declared.faults.Fault.{Fault}
-use Rattle.pattern_characters.specs.declared.faults.Fault.TheVariants.{NothingToRepeat, NumbersOutOfOrder, LoneBracket, BadEscape, NoSuchGroup, NoSuchName, OpenClass, SetInRange, RangeOutOfOrder, OpenGroup, NoGroupToClose, BadOpening, BadName, SameName, BadFlags, OtherFlags, UnknownProperty, ReferenceIgnoringCase, TooDeep, TooManyGroups}
+use Rattle.pattern_characters.specs.declared.faults.Fault.TheVariants.{NothingToRepeat, NumbersOutOfOrder, LoneBracket, BadEscape, NoSuchGroup, NoSuchName, OpenClass, SetInRange, RangeOutOfOrder, OpenGroup, NoGroupToClose, BadOpening, OtherOpening, BadName, SameName, BadFlags, OtherFlags, UnknownProperty, ReferenceIgnoringCase, TooDeep, TooManyGroups}
 use Rattle.pattern_characters.specs.declared.faults.Kind.{Kind}
 use Rattle.pattern_characters.specs.declared.faults.Kind.TheVariants.{NoPattern, NotSupported}
 
 -- the faults of texts that may be patterns: of the standard, past a limit, or of another engine, with a spelling that is not read;
 -- with any other fault a text breaks a rule of the standard (22.2.1 and 22.2.1.1)
 abbrev pub kind_of : Fault → Kind
-kind_of BadOpening = NotSupported
+kind_of OtherOpening = NotSupported
 kind_of OtherFlags = NotSupported
 kind_of UnknownProperty = NotSupported
 kind_of ReferenceIgnoringCase = NotSupported
@@ -32,7 +32,8 @@ fault_text SetInRange = codes "a set of characters is at an end of a range"
 fault_text RangeOutOfOrder = codes "the ends of a range are out of order"
 fault_text OpenGroup = codes "a group has no closing bracket"
 fault_text NoGroupToClose = codes "a closing bracket closes no group"
-fault_text BadOpening = codes "the characters after (? begin no group that is read"
+fault_text BadOpening = codes "the characters after (? begin no group"
+fault_text OtherOpening = codes "the characters after (? begin a group of another engine"
 fault_text BadName = codes "the name of a group is missing or has a wrong character"
 fault_text SameName = codes "two groups have the same name"
 fault_text BadFlags = codes "the flags of a group are missing or come twice"

@@ -5,8 +5,8 @@ ghost use Rattle.pattern_characters.specs.Characters as spec;
 /// The last code point.
 pub(crate) const LAST: u32 = 0x10_FFFF;
 
-// Returns whether a character is a decimal digit.
-pub(crate) fn is_digit(c: char) -> bool
+/// Returns whether a character is a decimal digit.
+pub fn is_digit(c: char) -> bool
     ensures is { result ≡ spec.is_digit c }
 {
     c >= '0' && c <= '9'

@@ -35,6 +35,8 @@ pub enum Fault {
     NoGroupToClose,
     /// The characters after `(?` begin no group.
     BadOpening,
+    /// The characters after `(?` begin a group that only other engines have.
+    OtherOpening,
     /// The name of a group is none.
     BadName,
     /// Two groups that may both take part in a match have the same name.
@@ -93,7 +95,7 @@ impl Fault {
         ensures kind { result ≡ kind_of self }
     {
         match self {
-            Fault::BadOpening => Kind::NotSupported,
+            Fault::OtherOpening => Kind::NotSupported,
             Fault::OtherFlags => Kind::NotSupported,
             Fault::UnknownProperty => Kind::NotSupported,
             Fault::ReferenceIgnoringCase => Kind::NotSupported,
@@ -119,7 +121,8 @@ impl Fault {
             Fault::RangeOutOfOrder => "the ends of a range are out of order",
             Fault::OpenGroup => "a group has no closing bracket",
             Fault::NoGroupToClose => "a closing bracket closes no group",
-            Fault::BadOpening => "the characters after (? begin no group that is read",
+            Fault::BadOpening => "the characters after (? begin no group",
+            Fault::OtherOpening => "the characters after (? begin a group of another engine",
             Fault::BadName => "the name of a group is missing or has a wrong character",
             Fault::SameName => "two groups have the same name",
             Fault::BadFlags => "the flags of a group are missing or come twice",

@@ -14,7 +14,7 @@ mod parts;
 mod properties;
 mod spans;
 
-pub use characters::{after, is_letter, number};
+pub use characters::{after, is_digit, is_letter, number};
 pub use classes::class;
 pub use counts::{braces, in_order};
 pub use escapes::member;

@@ -1,9 +1,10 @@
 -- What begins a group, after its opening bracket (22.2.1, Atom and Assertion).
 use Rattle.std.specs.Prelude.{ℕ, Bool, true, false, not, ◌&&◌, ◌||◌, ◌==◌, [], ◌∷◌, Option, Some, None, if◌then◌else◌, Result, Ok, Err}
-use Rattle.pattern_characters.specs.Characters.{Text, ◌>>=◌, or_fault, seen, is_letter, after}
+use Rattle.std.specs.List.{list_any}
+use Rattle.pattern_characters.specs.Characters.{Text, ◌>>=◌, or_fault, seen, is_digit, is_letter, starts, after}
 use Rattle.pattern_characters.specs.Names.{name}
 use Rattle.pattern_characters.specs.declared.faults.Fault.{Fault}
-use Rattle.pattern_characters.specs.declared.faults.Fault.TheVariants.{BadOpening, BadName, BadFlags, OtherFlags}
+use Rattle.pattern_characters.specs.declared.faults.Fault.TheVariants.{BadOpening, OtherOpening, BadName, BadFlags, OtherFlags}
 use Rattle.pattern_characters.specs.declared.parts.Flags.{Flags}
 use Rattle.pattern_characters.specs.declared.parts.Grammar.{Grammar}
 use Rattle.pattern_reader.specs.declared.parts.Opening.{Opening}
@@ -85,11 +86,18 @@ after_angle [] = Err BadName
 after_angle (c ∷ rest) =
     if c == 61 then Ok (look false true, rest) else if c == 33 then Ok (look false false, rest) else of_name (c ∷ rest)
 
--- after ?P, as other engines have it
+-- after ?P: < begins a name, as other engines have it, and with = or > it is a back reference or a call of theirs
+abbrev pub p_fault : Text → Fault
+p_fault text = if starts (λ c. (c == 61) || (c == 62)) text then OtherOpening else BadOpening
+
 abbrev pub after_p : Text → Result (Opening × Text) Fault
 after_p text = do
-  rest ← or_fault BadOpening (after 60 text)
+  rest ← or_fault (p_fault text) (after 60 text)
   of_name rest
+
+-- what begins a group in other engines alone: (?# (?& (?' (?( (?* (?+ (?> (?? (?^ (?{ (?| and (?1
+abbrev pub is_other : ℕ → Bool
+is_other c = is_digit c || list_any (λ d. d == c) (35 ∷ 38 ∷ 39 ∷ 40 ∷ 42 ∷ 43 ∷ 62 ∷ 63 ∷ 94 ∷ 123 ∷ 124 ∷ [])
 
 -- after (?
 abbrev pub after_mark : Grammar → Flags → Text → Result (Opening × Text) Fault
@@ -99,6 +107,7 @@ after_mark g f (c ∷ rest) =
     else if c == 33 then Ok (look true false, rest)
     else if c == 60 then after_angle rest
     else if g.extended && (c == 80) then after_p rest
+    else if is_other c then Err OtherOpening
     else flagged g f (c ∷ rest)
 
 unfoldable pub opening : Grammar → Flags → Text → Result (Opening × Text) Fault

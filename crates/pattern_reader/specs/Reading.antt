@@ -231,11 +231,10 @@ read_by strict extended text =
 
 abbrev pub or_older : Result Reading Refusal → Result Reading Refusal → Result Reading Refusal
 or_older (Ok r) older = Ok r
-or_older (Err e) (Ok r) = Ok r
-or_older (Err e) (Err d) = Err e
+or_older (Err e) older = older
 
 -- what a text means: by the grammar with the flag u, or else by the older one, both with the spellings of other engines;
--- if it is of neither, the first one says why
+-- the older one has the texts of the other too, so it says why a text is of neither
 unfoldable pub read : Text → Result Reading Refusal
 read text = or_older (read_by true true text) (read_by false true text)
 

@@ -19,7 +19,9 @@ pub(crate) struct Refusal {
 pub struct ReadError {
     /// What is wrong.
     pub fault: Fault,
-    /// The index of the character where it is.
+    /// The index of the character where the wrong part begins.
+    ///
+    /// It is the length of the text if only its end shows the fault.
     pub position: usize,
 }
 

@@ -5,7 +5,7 @@ ghost use Rattle.pattern_reader.specs.Openings as spec;
 ghost use Rattle.pattern_characters.specs.Telling.{Tells};
 
 use crate::parts::Opening;
-use pattern_characters::{Fault, Flags, Grammar, Stop, after, is_letter, name};
+use pattern_characters::{Fault, Flags, Grammar, Stop, after, is_digit, is_letter, name};
 use pattern_trees::Look;
 use std::alloc::Global;
 
@@ -171,14 +171,35 @@ fn after_angle(alloc: Global, text: &[char]) -> Result<(Opening, &[char]), Stop>
     }
 }
 
+// Returns the fault of a text after `?P` that begins no name.
+fn p_fault(text: &[char]) -> Fault
+    ensures fault { result ≡ spec.p_fault text.now }
+{
+    match text {
+        ['=' | '>', ..] => Fault::OtherOpening,
+        _ => Fault::BadOpening,
+    }
+}
+
 // Reads what follows `?P`.
 fn after_p(alloc: Global, text: &[char]) -> Result<(Opening, &[char]), Stop>
     ensures p { Tells (λ p. (p.0, p.1.now)) result (spec.after_p text.now) }
 {
     match after('<', text) {
         Some(rest) => of_name(alloc, rest),
-        None => Err(Stop::Refused(Fault::BadOpening)),
+        None => Err(Stop::Refused(p_fault(text))),
     }
+}
+
+// Returns whether a character after `(?` begins a group in other engines alone.
+fn is_other(c: char) -> bool
+    ensures is { result ≡ spec.is_other c }
+{
+    is_digit(c)
+        || matches!(
+            c,
+            '#' | '&' | '\'' | '(' | '*' | '+' | '>' | '?' | '^' | '{' | '|'
+        )
 }
 
 // Reads what follows `(?`.
@@ -196,6 +217,7 @@ fn after_mark(
         ['!', rest @ ..] => Ok((look(true, false), rest)),
         ['<', rest @ ..] => after_angle(alloc, rest),
         ['P', rest @ ..] if grammar.extended => after_p(alloc, rest),
+        [c, ..] if is_other(*c) => Err(Stop::Refused(Fault::OtherOpening)),
         _ => Ok(flagged(grammar, f, text)?),
     }
 }

@@ -149,8 +149,8 @@ fn read_by(
 
 /// Reads a text as a pattern.
 ///
-/// The text is read by the grammar with the flag u, or else by the older one; a text of neither is
-/// refused.
+/// The text is read by the grammar with the flag u, or else by the older one. A text of neither is
+/// refused, for what is wrong by the older one.
 ///
 /// # Errors
 ///
@@ -160,13 +160,12 @@ pub fn read(alloc: Global, text: &[char]) -> Result<Result<Pattern, ReadError>, 
     ensures read { IfOk result (λ r. seen reading_of r ≡ spec.located text.now (spec.read text.now)) }
     ensures plain { IfOk result (λ r. IfOk r (λ p. p.has_reference ≡ false → IsPlain (node_of p.tree))) }
 {
-    let refusal = match read_by(alloc, true, true, text)? {
-        Ok(pattern) => return Ok(Ok(pattern)),
-        Err(refusal) => refusal,
-    };
+    if let Ok(pattern) = read_by(alloc, true, true, text)? {
+        return Ok(Ok(pattern));
+    }
     match read_by(alloc, false, true, text)? {
         Ok(pattern) => Ok(Ok(pattern)),
-        Err(_) => Ok(Err(ReadError {
+        Err(refusal) => Ok(Err(ReadError {
             fault: refusal.fault,
             position: text.len().saturating_sub(refusal.left),
         })),

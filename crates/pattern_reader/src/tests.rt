@@ -10,11 +10,12 @@ type Read = (&'static str, u32, bool);
 type Refused = (&'static str, &'static str);
 
 /// Texts that are read.
-const READ: [Read; 9] = [
+const READ: [Read; 10] = [
     ("^(?!aws:).+$", 0, false),
     ("\\_", 0, false),
     ("\\A\\d+\\Z", 0, false),
     ("(?i)abc", 0, false),
+    ("(?i)\\babc\\B", 0, false),
     ("[\\uD800-\\uDBFF]", 0, false),
     ("(?<n>a)\\k<n>", 1, true),
     ("${1,128}", 0, false),
@@ -23,7 +24,7 @@ const READ: [Read; 9] = [
 ];
 
 /// Texts that are refused.
-const REFUSED: [Refused; 10] = [
+const REFUSED: [Refused; 15] = [
     (
         "a{2,1}",
         "no pattern: the numbers of a quantifier are out of order, at character 1",
@@ -54,7 +55,27 @@ const REFUSED: [Refused; 10] = [
     ),
     (
         "(?>a)",
-        "not supported: the characters after (? begin no group that is read, at character 0",
+        "not supported: the characters after (? begin a group of another engine, at character 0",
+    ),
+    (
+        "(?P>n)",
+        "not supported: the characters after (? begin a group of another engine, at character 0",
+    ),
+    (
+        "a(?",
+        "no pattern: the characters after (? begin no group, at character 1",
+    ),
+    (
+        "\\_(?>a)",
+        "not supported: the characters after (? begin a group of another engine, at character 2",
+    ),
+    (
+        "[\\d-z",
+        "no pattern: a class has no closing bracket, at character 0",
+    ),
+    (
+        "\\p{L",
+        "not supported: no known property of characters has this name, at character 0",
     ),
     (
         "a(?i)b",
