@@ -1,3 +1,4 @@
+pub mod Edges
 pub mod Errors
 pub mod Groups
 pub mod Openings

@@ -1,6 +1,6 @@
 -- What stands while a pattern is read: the groups that are open, and what each has so far.
 use Rattle.std.specs.Prelude.{ℕ, ◌+◌, ◌-◌, Bool, true, false, not, ◌&&◌, ◌||◌, ◌==◌, nat_le, List, [], ◌∷◌, length, Option, Some, None, if◌then◌else◌, Result, Ok, Err}
-use Rattle.pattern_trees.specs.Nodes.{Node, Nothing, At, Group, Around, Times, Pair, Choice}
+use Rattle.pattern_trees.specs.Nodes.{Node, Nothing, Group, Around, Times, Pair, Choice}
 use Rattle.pattern_trees.specs.declared.tree.Edge.{Edge}
 use Rattle.pattern_trees.specs.declared.tree.Turns.{Turns}
 use Rattle.pattern_characters.specs.Characters.{clamped}
@@ -10,6 +10,7 @@ use Rattle.pattern_characters.specs.declared.faults.Fault.TheVariants.{NothingTo
 use Rattle.pattern_characters.specs.declared.parts.Count.{Count}
 use Rattle.pattern_characters.specs.declared.parts.Flags.{Flags}
 use Rattle.pattern_characters.specs.declared.parts.Grammar.{Grammar}
+use Rattle.pattern_reader.specs.Edges.{edge_node}
 use Rattle.pattern_reader.specs.declared.parts.Wrap.{Wrap}
 use Rattle.pattern_reader.specs.declared.parts.Wrap.TheVariants as wrap
 
@@ -101,7 +102,7 @@ with_atom a s = with_top (with_term a s.groups true s.top) s
 
 -- Assertion: in other engines' spelling it may be repeated
 abbrev pub with_edge : Grammar → Edge → State → State
-with_edge g edge s = with_top (with_term (At edge) s.groups g.extended s.top) s
+with_edge g edge s = with_top (with_term (edge_node s.top.flags edge) s.groups g.extended s.top) s
 
 -- there may be 65,535 groups
 abbrev pub with_group : Bool → ℕ → Option ℕ

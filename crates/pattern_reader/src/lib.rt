@@ -5,6 +5,7 @@
 #![tactic(auto)]
 
 mod clashes;
+mod edges;
 mod errors;
 mod groups;
 mod openings;

@@ -6,6 +6,7 @@ ghost use Rattle.pattern_reader.specs.Reading.{is_head, with_flags};
 ghost use Rattle.pattern_reader.specs.Views.{part_of, parts_of, term_of, level_of, levels_of, state_of};
 ghost use Rattle.pattern_characters.specs.Telling.{Tells};
 
+use crate::edges::edge_tree;
 use crate::parts::Wrap;
 use pattern_characters::{Count, Fault, Flags, Grammar, Stop, in_order};
 use pattern_trees::{Edge, Tree, Turns};
@@ -295,8 +296,9 @@ pub(crate) fn with_edge(
         around,
         groups,
     } = state;
+    let tree = edge_tree(alloc, top.flags, edge)?;
     let term = Term {
-        tree: Tree::At(edge),
+        tree,
         before: groups,
         repeatable: grammar.extended,
     };
