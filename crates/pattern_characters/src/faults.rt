@@ -43,7 +43,7 @@ pub enum Fault {
     SameName,
     /// Flags of a group come twice, or there are none.
     BadFlags,
-    /// A flag is none of i, m and s, or stands where it is not supported.
+    /// A flag of a group is none of i, m and s.
     OtherFlags,
     /// No property of characters has this name.
     UnknownProperty,
@@ -126,7 +126,7 @@ impl Fault {
             Fault::BadName => "the name of a group is missing or has a wrong character",
             Fault::SameName => "two groups have the same name",
             Fault::BadFlags => "the flags of a group are missing or come twice",
-            Fault::OtherFlags => "a flag of a group is not read, or not there",
+            Fault::OtherFlags => "a flag of a group is none of i, m and s",
             Fault::UnknownProperty => "no known property of characters has this name",
             Fault::ReferenceIgnoringCase => "a back reference ignores case",
             Fault::TooDeep => "groups are nested too deep",

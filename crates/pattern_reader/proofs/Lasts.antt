@@ -45,11 +45,6 @@ unfolding levels_of
 levels_empty [] e = refl
 levels_empty (l ∷ levels) e = absurd (omega arith)
 
-pub parts_length : (parts : List Part) → length (parts_of parts) ≡ length parts
-unfolding parts_of
-parts_length [] = refl
-parts_length (p ∷ parts) = length-append (parts_of parts) (part_of p ∷ []) ∙ omega (arith, parts_length parts)
-
 pub ended_none : (s : State) → length s.around.items ≡ 0 → reading.ended (state_of s) ≡ Ok (state_of s)
 ended_none s e = ap (reading.if_closed (state_of s)) (levels_empty s.around.items e)
 

@@ -51,21 +51,26 @@ updated f on off = record {
 abbrev pub meet : Flags → Flags → Bool
 meet on off = (on.ignore_case && off.ignore_case) || (on.dot_all && off.dot_all) || (on.multiline && off.multiline)
 
--- the flags to clear and the colon, after the hyphen
-unfoldable pub cleared : Flags → Flags → Text → Result (Opening × Text) Fault
-cleared f on text = do
-  off ← modifiers no_flags text
-  rest ← or_fault BadOpening (after 58 off.1)
-  if (are_none on && are_none off.0) || meet on off.0 then Err BadFlags else Ok (Plain (updated f on off.0), rest)
+-- after all flags: a colon and then the body, or (as other engines have it) the closing bracket
+abbrev pub body_or_none : Grammar → Flags → Text → Result (Opening × Text) Fault
+body_or_none g f [] = Err BadOpening
+body_or_none g f (c ∷ rest) =
+    if c == 58 then Ok (Plain f, rest) else if g.extended && (c == 41) then Ok (Inline f, rest) else Err BadOpening
 
--- after the flags to set: a colon, a hyphen, or (as other engines have it) the closing bracket
+-- the flags to clear, after the hyphen
+unfoldable pub cleared : Grammar → Flags → Flags → Text → Result (Opening × Text) Fault
+cleared g f on text = do
+  off ← modifiers no_flags text
+  o ← body_or_none g (updated f on off.0) off.1
+  if (are_none on && are_none off.0) || meet on off.0 then Err BadFlags else Ok o
+
+-- after the flags to set; (?) has none
 abbrev pub after_set : Grammar → Flags → Flags → Text → Result (Opening × Text) Fault
 after_set g f on [] = Err BadOpening
 after_set g f on (c ∷ rest) =
-    if c == 58 then Ok (Plain (updated f on no_flags), rest)
-    else if c == 45 then cleared f on rest
-    else if g.extended && (c == 41) && not (are_none on) then Ok (Inline (updated f on no_flags), rest)
-    else Err BadOpening
+    if c == 45 then cleared g f on rest
+    else if (c == 41) && are_none on then Err BadOpening
+    else body_or_none g (updated f on no_flags) (c ∷ rest)
 
 -- ?: and ?i: and their like
 unfoldable pub flagged : Grammar → Flags → Text → Result (Opening × Text) Fault

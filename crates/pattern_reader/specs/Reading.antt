@@ -1,5 +1,5 @@
 -- What a text means as a pattern (ECMA-262, 22.2.1 and B.1.2): a character or a production at a time, with the groups that are open.
-use Rattle.std.specs.Prelude.{ℕ, suc, ◌+◌, ◌-◌, Bool, true, false, not, ◌&&◌, ◌||◌, ◌==◌, nat_le, List, [], ◌∷◌, length, Option, Some, None, if◌then◌else◌, Result, Ok, Err}
+use Rattle.std.specs.Prelude.{ℕ, suc, ◌+◌, ◌-◌, Bool, true, false, not, ◌&&◌, ◌||◌, ◌==◌, nat_le, List, [], ◌∷◌, length, Option, Some, None, option_map, if◌then◌else◌, Result, Ok, Err}
 use Rattle.pattern_trees.specs.Nodes.{Node, Nothing, OneOf, At, Reference, Group, Around, Times, Pair, Choice}
 use Rattle.pattern_trees.specs.declared.tree.Edge.TheVariants.{TextStart, TextEnd, LineStart, LineEnd, WordEdge, NoWordEdge}
 use Rattle.pattern_trees.specs.declared.tree.Edge.{Edge}
@@ -11,9 +11,9 @@ use Rattle.pattern_characters.specs.Names.{name}
 use Rattle.pattern_reader.specs.Groups.{Names, groups_of, has_names, has_name, references, is_named}
 use Rattle.pattern_reader.specs.Openings.{opening, no_flags}
 use Rattle.pattern_characters.specs.Sets.{member_node, dot_node}
-use Rattle.pattern_reader.specs.States.{State, start, next_alternative, body, with_atom, with_edge, with_top, opened, closed, repeated}
+use Rattle.pattern_reader.specs.States.{State, Term, start, next_alternative, body, with_atom, with_edge, with_top, opened, closed, repeated}
 use Rattle.pattern_characters.specs.declared.faults.Fault.{Fault}
-use Rattle.pattern_characters.specs.declared.faults.Fault.TheVariants.{LoneBracket, BadEscape, NoSuchGroup, NoSuchName, BadName, OpenGroup, SameName, OtherFlags, ReferenceIgnoringCase}
+use Rattle.pattern_characters.specs.declared.faults.Fault.TheVariants.{LoneBracket, BadEscape, NoSuchGroup, NoSuchName, BadName, OpenGroup, SameName, ReferenceIgnoringCase}
 use Rattle.pattern_reader.specs.declared.errors.Refusal.{Refusal}
 use Rattle.pattern_reader.specs.declared.errors.ReadError.{ReadError}
 use Rattle.pattern_characters.specs.declared.parts.Count.{Count}
@@ -24,22 +24,18 @@ use Rattle.pattern_reader.specs.declared.parts.Opening.{Opening}
 use Rattle.pattern_reader.specs.declared.parts.Opening.TheVariants as opens
 use Rattle.pattern_reader.specs.declared.parts.Wrap.TheVariants as wrap
 
-abbrev pub is_none : {A : Type 0} → Option A → Bool
-is_none None = true
-is_none (Some x) = false
+abbrev pub kept_once : Term → Term
+kept_once t = record t { repeatable = false }
 
--- flags for the rest of the pattern stand at its head
-abbrev pub is_head : State → Bool
-is_head s = (length s.around == 0) && (length s.top.others == 0) && (length s.top.terms == 0) && is_none s.top.last
-
+-- flags that hold up to the end of the innermost group; no quantifier after them applies to what stands before them
 abbrev pub with_flags : Flags → State → State
-with_flags f s = with_top (record (s.top) { flags = f }) s
+with_flags f s = with_top (record (s.top) { flags = f; last = option_map kept_once s.top.last }) s
 
 unfoldable pub begun : State → Opening → Result State Fault
 begun s opens.Capture = opened (wrap.Capture s.groups) true s.top.flags s
 begun s (opens.Plain f) = opened wrap.Plain false f s
 begun s (opens.Around look) = opened (wrap.Around look) false s.top.flags s
-begun s (opens.Inline f) = if is_head s then Ok (with_flags f s) else Err OtherFlags
+begun s (opens.Inline f) = Ok (with_flags f s)
 
 -- an opening bracket, and what follows it
 unfoldable pub group : Grammar → State → Text → Result (State × Text) Fault

@@ -95,22 +95,36 @@ fn meet(on: Flags, off: Flags) -> bool
         || (on.multiline && off.multiline)
 }
 
-// Reads the flags to clear and the colon.
+// Reads what follows all flags: the colon, or the closing bracket.
+fn body_or_none(grammar: Grammar, f: Flags, text: &[char]) -> Result<(Opening, &[char]), Fault>
+    ensures body { seen (λ p. (p.0, p.1.now)) result ≡ spec.body_or_none grammar f text.now }
+{
+    match text {
+        [':', rest @ ..] => Ok((Opening::Plain(f), rest)),
+        [')', rest @ ..] if grammar.extended => Ok((Opening::Inline(f), rest)),
+        _ => Err(Fault::BadOpening),
+    }
+}
+
+// Reads the flags to clear, and what follows them.
 #[tactic(auto, unfolding(crate::specs::Openings::cleared))]
-fn cleared(f: Flags, on: Flags, text: &[char]) -> Result<(Opening, &[char]), Fault>
-    ensures cleared { seen (λ p. (p.0, p.1.now)) result ≡ spec.cleared f on text.now }
+fn cleared(
+    grammar: Grammar,
+    f: Flags,
+    on: Flags,
+    text: &[char],
+) -> Result<(Opening, &[char]), Fault>
+    ensures cleared { seen (λ p. (p.0, p.1.now)) result ≡ spec.cleared grammar f on text.now }
 {
     let (off, rest) = modifiers(text)?;
-    let Some(rest) = after(':', rest) else {
-        return Err(Fault::BadOpening);
-    };
+    let (opening, rest) = body_or_none(grammar, updated(f, on, off), rest)?;
     if are_none(on) && are_none(off) {
         return Err(Fault::BadFlags);
     }
     if meet(on, off) {
         return Err(Fault::BadFlags);
     }
-    Ok((Opening::Plain(updated(f, on, off)), rest))
+    Ok((opening, rest))
 }
 
 // Reads what follows the flags to set.
@@ -123,12 +137,9 @@ fn after_set(
     ensures after { seen (λ p. (p.0, p.1.now)) result ≡ spec.after_set grammar f on text.now }
 {
     match text {
-        [':', rest @ ..] => Ok((Opening::Plain(updated(f, on, no_flags())), rest)),
-        ['-', rest @ ..] => cleared(f, on, rest),
-        [')', rest @ ..] if grammar.extended && !are_none(on) => {
-            Ok((Opening::Inline(updated(f, on, no_flags())), rest))
-        }
-        _ => Err(Fault::BadOpening),
+        ['-', rest @ ..] => cleared(grammar, f, on, rest),
+        [')', ..] if are_none(on) => Err(Fault::BadOpening),
+        _ => body_or_none(grammar, updated(f, on, no_flags()), text),
     }
 }
 

@@ -11,7 +11,7 @@ pub(crate) enum Opening {
     Plain(Flags),
     /// A lookaround.
     Around(Look),
-    /// No group, but flags for the rest of the pattern.
+    /// No group, but flags up to the end of the group around.
     Inline(Flags),
 }
 

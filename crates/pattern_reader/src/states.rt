@@ -2,7 +2,7 @@
 ghost use Rattle.std.specs.Prelude.{◌≡◌, ◌<◌, [], ◌∷◌, true, false, length, nat_le, vec_len, IfOk, IfSome, IfNone, option_map};
 ghost use Rattle.pattern_trees.specs.Nodes.{node_of};
 ghost use Rattle.pattern_reader.specs.States as spec;
-ghost use Rattle.pattern_reader.specs.Reading.{is_head, with_flags};
+ghost use Rattle.pattern_reader.specs.Reading.{with_flags};
 ghost use Rattle.pattern_reader.specs.Views.{part_of, parts_of, term_of, level_of, levels_of, state_of};
 ghost use Rattle.pattern_characters.specs.Telling.{Tells};
 
@@ -519,22 +519,14 @@ pub(crate) fn repeated(
     })
 }
 
-// Returns whether nothing was read yet but flags.
-#[tactic(auto, using(crate::proofs::Lasts::levels_length, crate::proofs::Lasts::parts_length))]
-pub(crate) fn is_head(state: &State) -> bool
-    ensures head { result ≡ is_head (state_of state.now) }
-{
-    state.around.is_empty()
-        && state.top.others.is_empty()
-        && state.top.terms.is_empty()
-        && state.top.last.is_none()
-}
-
-// Returns the state with other flags in the innermost group.
+// Returns the state with other flags in the innermost group, whose last term is not repeated any more.
 pub(crate) fn with_flags(flags: Flags, state: State) -> State
     ensures flags { state_of result ≡ with_flags flags (state_of state) }
 {
     let mut state = state;
     state.top.flags = flags;
+    if let Some(term) = &mut state.top.last {
+        term.repeatable = false;
+    }
     state
 }

@@ -13,7 +13,7 @@ ghost use Rattle.pattern_reader.specs.Views.{state_of};
 use crate::groups::{GroupName, has_name, references};
 use crate::openings::opening;
 use crate::parts::{Opening, Wrap};
-use crate::states::{State, is_head, opened, repeated, with_atom, with_edge, with_flags};
+use crate::states::{State, opened, repeated, with_atom, with_edge, with_flags};
 use pattern_characters::{
     Count, Fault, Grammar, Member, Stop, after, braces, class, member, member_tree, name, number,
     one_of,
@@ -32,12 +32,7 @@ fn begun(alloc: Global, state: State, opening: Opening) -> Result<State, Stop>
         Opening::Capture => opened(alloc, Wrap::Capture(groups), true, flags, state),
         Opening::Plain(inner) => opened(alloc, Wrap::Plain, false, inner, state),
         Opening::Around(look) => opened(alloc, Wrap::Around(look), false, flags, state),
-        Opening::Inline(inner) => {
-            if is_head(&state) {
-                return Ok(with_flags(inner, state));
-            }
-            Err(Stop::Refused(Fault::OtherFlags))
-        }
+        Opening::Inline(inner) => Ok(with_flags(inner, state)),
     }
 }
 

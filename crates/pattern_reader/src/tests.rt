@@ -10,11 +10,13 @@ type Read = (&'static str, u32, bool);
 type Refused = (&'static str, &'static str);
 
 /// Texts that are read.
-const READ: [Read; 10] = [
+const READ: [Read; 12] = [
     ("^(?!aws:).+$", 0, false),
     ("\\_", 0, false),
     ("\\A\\d+\\Z", 0, false),
     ("(?i)abc", 0, false),
+    ("^(2|3)\\s*(?i)GB$", 1, false),
+    ("a(?i)b(?-i)c", 0, false),
     ("(?i)\\babc\\B", 0, false),
     ("[\\uD800-\\uDBFF]", 0, false),
     ("(?<n>a)\\k<n>", 1, true),
@@ -24,7 +26,7 @@ const READ: [Read; 10] = [
 ];
 
 /// Texts that are refused.
-const REFUSED: [Refused; 15] = [
+const REFUSED: [Refused; 16] = [
     (
         "a{2,1}",
         "no pattern: the numbers of a quantifier are out of order, at character 1",
@@ -78,8 +80,12 @@ const REFUSED: [Refused; 15] = [
         "not supported: no known property of characters has this name, at character 0",
     ),
     (
-        "a(?i)b",
-        "not supported: a flag of a group is not read, or not there, at character 1",
+        "a(?x)b",
+        "not supported: a flag of a group is none of i, m and s, at character 1",
+    ),
+    (
+        "a(?i)*",
+        "no pattern: a quantifier has nothing to repeat, at character 5",
     ),
     (
         "(?i)(a)\\1",
