@@ -1,5 +1,5 @@
 //! Whether a pattern matches somewhere in a text.
-ghost use Rattle.std.specs.Prelude.{◌≡◌, ℕ, Some, true};
+ghost use Rattle.std.specs.Prelude.{◌≡◌, ℕ, Some, chars, true};
 ghost use Rattle.pattern_trees.specs.Matching.{found};
 ghost use Rattle.pattern_trees.specs.Nodes.{node_of};
 ghost use Rattle.schema_reports.specs.Showing.{Shows, Yields};
@@ -7,12 +7,16 @@ ghost use Rattle.unfinished_matches.specs.MatchViews.{match_of};
 ghost use Rattle.pattern_matcher.specs.PatternMatching.{decided_match, is_plain, readable_match, referring_match};
 ghost use Rattle.pattern_matcher.specs.ReadViews.{reading_seen};
 
+use crate::reading::{chars_of, copy_ascii};
 use pattern_backtracking::find_within;
 use pattern_reader::Pattern;
 use pattern_sets::matches;
 use schema_reports::{OutOfMemory, Text};
 use std::alloc::{AllocError, Global};
 use unfinished_matches::{Match, Reason};
+
+// How many characters a text may have that is matched without memory.
+const SHORT: usize = 64;
 
 const LIMIT_TEXT: &str = "Error executing regex: Max limit for backtracking count exceeded";
 
@@ -74,14 +78,10 @@ fn referring_match(
     }
 }
 
-/// Returns the match of a pattern and a text.
-///
-/// The caller knows whether the pattern is plain.
-///
-/// # Errors
-///
-/// Out of memory. Without a limit, also if a match takes 2^64 steps.
-pub fn readable_match(
+// Returns the match of a pattern and the characters of a text.
+//
+// The caller knows whether the pattern is plain.
+fn readable_match(
     alloc: Global,
     limit: Option<u64>,
     plain: bool,
@@ -95,4 +95,30 @@ pub fn readable_match(
         return Ok(Match::Finished(plain_found(alloc, pattern, text)?));
     }
     referring_match(alloc, limit, pattern, text)
+}
+
+/// Returns the match of a pattern and a text.
+///
+/// The caller knows whether the pattern is plain.
+///
+/// # Errors
+///
+/// Out of memory. Without a limit, also if a match takes 2^64 steps.
+pub fn text_match(
+    alloc: Global,
+    limit: Option<u64>,
+    plain: bool,
+    pattern: &Pattern,
+    subject: &str,
+) -> Result<Match, OutOfMemory>
+    requires plain { plain ≡ is_plain (node_of pattern.now.tree) }
+    ensures answer { Shows match_of result (readable_match limit (reading_seen pattern.now) (chars subject.now)) }
+{
+    let mut buffer = ['\0'; SHORT];
+    if copy_ascii(&mut buffer, subject) {
+        let text = &buffer[..subject.len()];
+        return readable_match(alloc, limit, plain, pattern, text);
+    }
+    let text = chars_of(alloc, subject)?;
+    readable_match(alloc, limit, plain, pattern, text.as_slice())
 }

@@ -5,9 +5,9 @@ ghost use Rattle.unfinished_matches.specs.MatchViews.{match_of};
 ghost use Rattle.pattern_matcher.specs.PatternMatching.{is_readable, match_by, plain_in, refers};
 ghost use Rattle.pattern_matcher.specs.ReadViews.{reading_seen};
 
-use crate::answers::readable_match;
+use crate::answers::text_match;
 use crate::plain::is_plain;
-use crate::reading::{chars_of, read_pattern};
+use crate::reading::read_pattern;
 use crate::treatment::Treatment;
 use pattern_reader::Pattern;
 use schema_reports::OutOfMemory;
@@ -91,16 +91,7 @@ impl ReadPattern {
         ensures answer { Shows match_of result (match_by treatment self.now subject.now) }
     {
         match &self.pattern {
-            Some(pattern) => {
-                let text = chars_of(alloc, subject)?;
-                readable_match(
-                    alloc,
-                    treatment.limit,
-                    self.is_plain,
-                    pattern,
-                    text.as_slice(),
-                )
-            }
+            Some(pattern) => { text_match(alloc, treatment.limit, self.is_plain, pattern, subject) }
             None => Ok(treatment.unreadable.answer()),
         }
     }

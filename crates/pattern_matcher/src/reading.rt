@@ -1,5 +1,5 @@
 //! Reads texts, as characters and as patterns.
-ghost use Rattle.std.specs.Prelude.{◌≡◌, IfOk, chars, option_map, string_bytes};
+ghost use Rattle.std.specs.Prelude.{◌≡◌, ◌≤◌, IfOk, chars, length, option_map, string_bytes, take, true};
 ghost use Rattle.pattern_matcher.specs.PatternMatching.{fault_text, reading_of};
 ghost use Rattle.pattern_matcher.specs.ReadViews.{reading_seen};
 
@@ -15,11 +15,32 @@ use std::alloc::Global;
 pub fn chars_of(alloc: Global, text: &str) -> Result<Vec<char>, OutOfMemory>
     ensures chars { IfOk result (λ v. v.items ≡ chars text.now) }
 {
-    let mut chars = Vec::new(alloc);
+    let mut chars = Vec::with_capacity(alloc, text.len())?;
     for c in text.chars() {
         chars.push(c)?;
     }
     Ok(chars)
+}
+
+/// Copies the characters of a text into a buffer.
+///
+/// Returns whether the text fits and is all ASCII. Otherwise some of it may be copied.
+pub fn copy_ascii(buffer: &mut [char], text: &str) -> bool
+    ensures copied { result ≡ true → take (length text.now) buffer.new ≡ chars text.now }
+    ensures fits { result ≡ true → length text.now ≤ length buffer.new }
+{
+    let bytes = text.as_bytes();
+    if buffer.len() < bytes.len() {
+        return false;
+    }
+    for i in 0..bytes.len() {
+        let byte = bytes[i];
+        if byte >= 128 {
+            return false;
+        }
+        buffer[i] = byte as char;
+    }
+    true
 }
 
 /// Reads a text as a pattern; `None` if it cannot be read.
