@@ -11,6 +11,8 @@
 #![tactic(auto)]
 
 mod contents;
+mod idn_characters;
+mod idn_contexts;
 mod idn_hostnames;
 mod keyword;
 mod table;
