@@ -6,6 +6,7 @@ use Rattle.std.proofs.lemmas.List.Splits.{length-slice_split, slice_split_first}
 use Rattle.text_formats.specs.Addresses.{groups, is_group, last_groups}
 use Rattle.text_formats.specs.Characters.{Text}
 use Rattle.text_formats.specs.Cutting.{cut, parts}
+use Rattle.text_formats.specs.declared.addresses.Ending.{Ending}
 
 cut_within : (m : ℕ) (t : Text) → position_or_len (λ c. c == m) t < length t
     → cut m t ≡ Some (before_first (λ c. c == m) t, after_first (λ c. c == m) t)
@@ -66,14 +67,14 @@ each_alone p m t none = rw (parts_alone m t none) (and_true (p t))
     and_true true = refl
     and_true false = refl
 
-groups_cons : (may : Bool) (p : Text) (qs : List Text) → 0 < length qs → is_group p ≡ true
-    → groups may (p ∷ qs) ≡ option_map (λ n. n + 1) (groups may qs)
-groups_cons may p [] some is = absurd (omega (arith, some))
-groups_cons may p (q ∷ qs) some is = rw is refl
+groups_cons : (ending : Ending) (p : Text) (qs : List Text) → 0 < length qs → is_group p ≡ true
+    → groups ending (p ∷ qs) ≡ option_map (λ n. n + 1) (groups ending qs)
+groups_cons ending p [] some is = absurd (omega (arith, some))
+groups_cons ending p (q ∷ qs) some is = rw is refl
 
-groups_stop : (may : Bool) (p : Text) (qs : List Text) → 0 < length qs → is_group p ≡ false → groups may (p ∷ qs) ≡ None
-groups_stop may p [] some is = absurd (omega (arith, some))
-groups_stop may p (q ∷ qs) some is = rw is refl
+groups_stop : (ending : Ending) (p : Text) (qs : List Text) → 0 < length qs → is_group p ≡ false → groups ending (p ∷ qs) ≡ None
+groups_stop ending p [] some is = absurd (omega (arith, some))
+groups_stop ending p (q ∷ qs) some is = rw is refl
 
 some_part : (m : ℕ) (t : Text) → 0 < length (parts m t)
 some_part m t = omega (arith, length-slice_split (λ c. c == m) t)
@@ -83,23 +84,23 @@ one_more count None = refl
 one_more count (Some n) = ap Some (omega arith)
 
 -- a group before the first mark is counted
-pub groups_counted : (may : Bool) (t u front back : Text) (count : ℕ)
-    → groups may (parts 58 t) ≡ option_map (λ n. count + n) (groups may (parts 58 u)) → Some (front, back) ≡ cut 58 u → is_group front ≡ true
-    → groups may (parts 58 t) ≡ option_map (λ n. (count + 1) + n) (groups may (parts 58 back))
-groups_counted may t u front back count before is group =
-    before ∙ ap (λ ps. option_map (λ n. count + n) (groups may ps)) (parts_after 58 u front back is)
-    ∙ ap (option_map (λ n. count + n)) (groups_cons may front (parts 58 back) (some_part 58 back) group) ∙ one_more count (groups may (parts 58 back))
+pub groups_counted : (ending : Ending) (t u front back : Text) (count : ℕ)
+    → groups ending (parts 58 t) ≡ option_map (λ n. count + n) (groups ending (parts 58 u)) → Some (front, back) ≡ cut 58 u → is_group front ≡ true
+    → groups ending (parts 58 t) ≡ option_map (λ n. (count + 1) + n) (groups ending (parts 58 back))
+groups_counted ending t u front back count before is group =
+    before ∙ ap (λ ps. option_map (λ n. count + n) (groups ending ps)) (parts_after 58 u front back is)
+    ∙ ap (option_map (λ n. count + n)) (groups_cons ending front (parts 58 back) (some_part 58 back) group) ∙ one_more count (groups ending (parts 58 back))
 
 -- if a part is not a group, then the parts together are not groups
-pub groups_refused : (may : Bool) (t u front back : Text) (count : ℕ)
-    → groups may (parts 58 t) ≡ option_map (λ n. count + n) (groups may (parts 58 u)) → Some (front, back) ≡ cut 58 u → is_group front ≡ false
-    → groups may (parts 58 t) ≡ None
-groups_refused may t u front back count before is group =
-    before ∙ ap (λ ps. option_map (λ n. count + n) (groups may ps)) (parts_after 58 u front back is)
-    ∙ ap (option_map (λ n. count + n)) (groups_stop may front (parts 58 back) (some_part 58 back) group)
+pub groups_refused : (ending : Ending) (t u front back : Text) (count : ℕ)
+    → groups ending (parts 58 t) ≡ option_map (λ n. count + n) (groups ending (parts 58 u)) → Some (front, back) ≡ cut 58 u → is_group front ≡ false
+    → groups ending (parts 58 t) ≡ None
+groups_refused ending t u front back count before is group =
+    before ∙ ap (λ ps. option_map (λ n. count + n) (groups ending ps)) (parts_after 58 u front back is)
+    ∙ ap (option_map (λ n. count + n)) (groups_stop ending front (parts 58 back) (some_part 58 back) group)
 
-pub groups_ended : (may : Bool) (t u : Text) (count : ℕ)
-    → groups may (parts 58 t) ≡ option_map (λ n. count + n) (groups may (parts 58 u)) → None ≡ cut 58 u
-    → groups may (parts 58 t) ≡ option_map (λ n. count + n) (last_groups may u)
-groups_ended may t u count before none =
-    before ∙ ap (λ ps. option_map (λ n. count + n) (groups may ps)) (parts_alone 58 u none)
+pub groups_ended : (ending : Ending) (t u : Text) (count : ℕ)
+    → groups ending (parts 58 t) ≡ option_map (λ n. count + n) (groups ending (parts 58 u)) → None ≡ cut 58 u
+    → groups ending (parts 58 t) ≡ option_map (λ n. count + n) (last_groups ending u)
+groups_ended ending t u count before none =
+    before ∙ ap (λ ps. option_map (λ n. count + n) (groups ending ps)) (parts_alone 58 u none)

@@ -1,11 +1,18 @@
--- Durations. (RFC 3339, appendix A)
-use Rattle.std.specs.Prelude.{Bool, None, Option, Some, [], false, option_and_then, ◌&&◌, ◌==◌, ◌||◌, ◌∷◌, ℕ}
+-- Durations. (RFC 3339, appendix A) Their letters may be small too, since the texts of a grammar
+-- have no case. (RFC 5234, section 2.3)
+use Rattle.std.specs.Prelude.{Bool, None, Option, Some, [], false, if◌then◌else◌, option_and_then, ◌&&◌, ◌||◌, ◌∷◌, ℕ}
+use Rattle.std.specs.Char.{eq_ignore_ascii_case}
 use Rattle.text_formats.specs.Characters.{Text}
-use Rattle.text_formats.specs.Cutting.{after, after_digits, is_empty}
+use Rattle.text_formats.specs.Cutting.{after_digits, is_empty}
+
+-- the text after this letter, capital or small, if the text begins with it
+abbrev pub after_letter : ℕ → Text → Option Text
+after_letter letter [] = None
+after_letter letter (c ∷ cs) = if eq_ignore_ascii_case c letter then Some cs else None
 
 -- the text after 1*DIGIT and a unit
 abbrev pub after_count : ℕ → Text → Option Text
-after_count unit t = option_and_then (after unit) (after_digits t)
+after_count unit t = option_and_then (after_letter unit) (after_digits t)
 
 -- there is such a text, and it is empty
 abbrev pub is_last : Option Text → Bool
@@ -35,7 +42,7 @@ is_hours t = is_hours_end (after_count 72 t)
 -- dur-time = "T" (dur-hour / dur-minute / dur-second)
 abbrev pub is_clock : Text → Bool
 is_clock [] = false
-is_clock (c ∷ cs) = (c == 84) && (is_hours cs || is_minutes cs || is_seconds cs)
+is_clock (c ∷ cs) = eq_ignore_ascii_case c 84 && (is_hours cs || is_minutes cs || is_seconds cs)
 
 -- the rest after the days, months or years of a dur-date, up to the end: [dur-time]
 abbrev pub is_end : Text → Bool
@@ -72,4 +79,4 @@ is_weeks t = is_last (after_count 87 t)
 -- duration = "P" (dur-date / dur-time / dur-week), where dur-date = (dur-day / dur-month / dur-year) [dur-time]
 abbrev pub is_duration : Text → Bool
 is_duration [] = false
-is_duration (c ∷ cs) = (c == 80) && (is_days cs || is_months cs || is_years cs || is_clock cs || is_weeks cs)
+is_duration (c ∷ cs) = eq_ignore_ascii_case c 80 && (is_days cs || is_months cs || is_years cs || is_clock cs || is_weeks cs)

@@ -2,9 +2,10 @@
 -- section 3.2.3) If `wide` is true, they are internationalized: atext, qtextSMTP and labels may
 -- have characters outside ASCII too. (RFC 6531, section 3.3) A label with such characters, a
 -- U-label, has no further conditions.
-use Rattle.std.specs.Prelude.{Bool, None, Option, Some, [], bytes_eq, codes, drop, false, if◌then◌else◌, length, nat_le, not, option_and_then, take, true, ◌&&◌, ◌-◌, ◌==◌, ◌||◌, ◌∷◌, ℕ}
+use Rattle.std.specs.Prelude.{Bool, None, Option, Some, [], codes, drop, false, if◌then◌else◌, length, nat_le, not, option_and_then, take, true, ◌&&◌, ◌-◌, ◌==◌, ◌||◌, ◌∷◌, ℕ}
 use Rattle.std.specs.List.{list_all, list_any}
-use Rattle.text_formats.specs.Addresses.{is_ipv4, is_ipv6}
+use Rattle.std.specs.Str.{str_eq_ignore_ascii_case}
+use Rattle.text_formats.specs.Addresses.{is_mail_ipv4, is_mail_ipv6}
 use Rattle.text_formats.specs.Characters.{Text, is_between, is_digit, is_letter}
 use Rattle.text_formats.specs.Cutting.{after, cut, is_empty, parts}
 use Rattle.text_formats.specs.Hostnames.{is_label}
@@ -44,9 +45,10 @@ after_local_part wide (c ∷ cs) =
     if c == 34 then option_and_then (after 64) (after_quoted wide cs)
     else after_dot_string wide (cut 64 (c ∷ cs))
 
--- IPv4-address-literal / IPv6-address-literal; the only tag in use is `IPv6:`
+-- IPv4-address-literal / IPv6-address-literal; the only tag in use is `IPv6:`, which has no case,
+-- as the texts of a grammar have none (RFC 5234, section 2.3)
 abbrev pub is_literal : Text → Bool
-is_literal t = is_ipv4 t || (bytes_eq (take 5 t) (codes "IPv6:") && is_ipv6 (drop 5 t))
+is_literal t = is_mail_ipv4 t || (str_eq_ignore_ascii_case (take 5 t) (codes "IPv6:") && is_mail_ipv6 (drop 5 t))
 
 abbrev pub is_literal_before : Option (Text × Text) → Bool
 is_literal_before None = false

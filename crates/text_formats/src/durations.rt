@@ -2,14 +2,24 @@
 ghost use Rattle.std.specs.Prelude.{◌≡◌, option_map};
 ghost use Rattle.text_formats.specs.Durations as spec;
 
-use crate::cutting::{after, after_digits};
+use crate::cutting::after_digits;
+
+// Returns the text after this letter, capital or small, if the text begins with it.
+fn after_letter(letter: u8, text: &[u8]) -> Option<&[u8]>
+    ensures after { option_map (λ t. t.now) result ≡ spec.after_letter letter text.now }
+{
+    match text {
+        [first, rest @ ..] if first.eq_ignore_ascii_case(&letter) => Some(rest),
+        _ => None,
+    }
+}
 
 // Returns the text after one or more digits and a unit.
 fn after_count(text: &[u8], unit: u8) -> Option<&[u8]>
     ensures after { option_map (λ t. t.now) result ≡ spec.after_count unit text.now }
 {
     match after_digits(text) {
-        Some(rest) => after(rest, unit),
+        Some(rest) => after_letter(unit, rest),
         None => None,
     }
 }
@@ -46,7 +56,9 @@ fn is_clock(text: &[u8]) -> bool
     ensures clock { result ≡ spec.is_clock text.now }
 {
     match text {
-        [b'T', rest @ ..] => is_hours(rest) || is_minutes(rest) || is_last(rest, b'S'),
+        [first, rest @ ..] if first.eq_ignore_ascii_case(&b'T') => is_hours(rest)
+            || is_minutes(rest)
+            || is_last(rest, b'S'),
         _ => false,
     }
 }
@@ -85,11 +97,13 @@ fn is_years(text: &[u8]) -> bool
 }
 
 /// Returns whether a text is a duration, such as `P4DT12H30M5S`.
+///
+/// Its letters may be small too.
 pub fn is_duration(text: &str) -> bool
     ensures duration { result ≡ spec.is_duration text.now }
 {
     match text.as_bytes() {
-        [b'P', rest @ ..] => {
+        [first, rest @ ..] if first.eq_ignore_ascii_case(&b'P') => {
             is_days(rest)
                 || is_months(rest)
                 || is_years(rest)

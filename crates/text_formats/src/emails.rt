@@ -1,13 +1,14 @@
 //! Addresses of electronic mail.
 //!
-//! RFC 5321, section 4.1.2; RFC 6531, section 3.3. If `wide` is true, the addresses are
+//! RFC 5321, sections 4.1.2 and 4.1.3; RFC 6531, section 3.3. If `wide` is true, the addresses are
 //! internationalized: characters outside ASCII are allowed.
-ghost use Rattle.std.specs.Prelude.{◌≡◌, option_map};
+ghost use Rattle.std.specs.Prelude.{◌≡◌, codes, option_map};
 ghost use Rattle.std.specs.List.{list_all};
+ghost use Rattle.std.specs.Str.{str_eq_ignore_ascii_case};
 ghost use Rattle.text_formats.specs.Cutting as Cutting;
 ghost use Rattle.text_formats.specs.Emails as spec;
 
-use crate::addresses::{is_ipv4_in, is_ipv6_in};
+use crate::addresses::{is_mail_ipv4, is_mail_ipv6};
 use crate::characters::{is_digit, is_letter};
 use crate::cutting::{after, cut, split};
 use crate::parts::Part;
@@ -78,11 +79,18 @@ fn after_local_part(wide: bool, text: &[u8]) -> Option<&[u8]>
     }
 }
 
+// Returns whether a text is `IPv6:`, in letters of either case.
+fn is_tag(text: &[u8]) -> bool
+    ensures tag { result ≡ str_eq_ignore_ascii_case text.now (codes "IPv6:") }
+{
+    text.eq_ignore_ascii_case(b"IPv6:")
+}
+
 fn is_literal(text: &[u8]) -> bool
     ensures literal { result ≡ spec.is_literal text.now }
 {
     let (tag, address) = split(text, 5);
-    is_ipv4_in(text) || tag == b"IPv6:".as_slice() && is_ipv6_in(address)
+    is_mail_ipv4(text) || is_tag(tag) && is_mail_ipv6(address)
 }
 
 fn is_literal_before_bracket(text: &[u8]) -> bool

@@ -4,17 +4,19 @@ ghost use Rattle.std.specs.List.{list_all};
 ghost use Rattle.text_formats.specs.Cutting.{parts};
 ghost use Rattle.text_formats.specs.Parts as spec;
 
+use crate::addresses::is_snum;
 use crate::cutting::cut;
 use crate::emails::is_atom;
 use crate::hostnames::is_label;
 use crate::templates::is_variable;
 
 // The kind of the parts: atoms of a mail address or labels of a host's name, where `true` allows
-// characters outside ASCII, or variables of a template.
+// characters outside ASCII, numbers of an IPv4 address in mail, or variables of a template.
 #[derive(Clone, Copy)]
 pub(crate) enum Part {
     Atom(bool),
     Label(bool),
+    Snum,
     Variable,
 }
 
@@ -25,6 +27,7 @@ impl Part {
         match self {
             Part::Atom(wide) => is_atom(wide, text),
             Part::Label(wide) => is_label(wide, text),
+            Part::Snum => is_snum(text),
             Part::Variable => is_variable(text),
         }
     }

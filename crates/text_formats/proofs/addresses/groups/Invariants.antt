@@ -5,7 +5,7 @@ use Rattle.text_formats.proofs.addresses.groups.Given as goal
 
 abbrev pub invariant-loop-group : goal.invariant-loop-group
 invariant-loop-group l = record {
-  counted : spec.groups l.may_be_ipv4 (parts 58 l.text) ≡ option_map (λ n. l.count + n) (spec.groups l.may_be_ipv4 (parts 58 l.rest));
+  counted : spec.groups l.ending (parts 58 l.text) ≡ option_map (λ n. l.count + n) (spec.groups l.ending (parts 58 l.rest));
   few : l.count + length l.rest ≤ length l.text;
 }
 
