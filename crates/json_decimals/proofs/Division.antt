@@ -17,7 +17,7 @@ decided : (a b : ℕ) → Decides (a % b == 0) (b ∣ a)
 decided a b = Decides-like _ (dvd_of_mod-eq-zero b) (mod-eq-zero_of_dvd b) (Decides-eqb (a % b) 0)
 
 -- a factor of both changes nothing
-scaled : (a b c : ℕ) → 0 < c → ((a * c) % (b * c) == 0) ≡ (a % b == 0)
+pub scaled : (a b c : ℕ) → 0 < c → ((a * c) % (b * c) == 0) ≡ (a % b == 0)
 scaled a b c p =
     same_from_decides _ _ (Decides-like _ (λ h. dvd_of_mul-dvd-mul_right b p h) (λ h. mul-dvd-mul_right b h c) (decided (a * c) (b * c))) (decided a b)
 

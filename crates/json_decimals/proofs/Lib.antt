@@ -1,5 +1,6 @@
 pub mod Closeness
 pub mod Division
+pub mod EqualNumbers
 pub mod Exponents
 pub mod Reading
 pub mod Uniqueness
