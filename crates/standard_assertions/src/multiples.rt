@@ -6,21 +6,21 @@ ghost use Rattle.standard_assertions.specs.Multiples.{is_multiple, multiple_text
 ghost use Rattle.keyword_authoring.specs.TextWords.{ShowsText};
 
 use crate::numbers::HeldNumber;
-use json_values::is_rounded_multiple_of;
+use json_decimals::is_multiple_of;
 use schema_reports::{Instance, OutOfMemory};
 use std::alloc::Global;
 
 /// Returns whether an instance is a multiple of the divisor, or is no number.
 ///
-/// The quotient of two integers is exact. If one of the two has a fraction, then the quotient is
-/// rounded to a float, which must be an integer.
+/// Each number stands for the decimal that was written, so 4.35 is a multiple of 0.01, and the
+/// quotient is not rounded.
 pub fn is_multiple(divisor: &HeldNumber, instance: Instance<'_>) -> bool
     ensures multiple { result ≡ is_multiple divisor.now (subject_of instance.entry) }
 {
     match instance {
         Instance::Name(_) => true,
         Instance::Value(value) => match value.as_number() {
-            Some(number) => is_rounded_multiple_of(number, divisor.as_number()),
+            Some(number) => is_multiple_of(number, divisor.as_number()),
             None => true,
         },
     }
