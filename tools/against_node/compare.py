@@ -1,6 +1,7 @@
-"""compare.py PROGRAM [COUNT]: asks node and the built program `bowtie_harness` of the same patterns, those written out in rows.js and COUNT
-random ones (3000 where it is not said), and prints how many both answer alike, both refuse, one alone reads, or answer differently. The
-program is asked of each pattern by a schema of `pattern` alone, and of each subject by an instance."""
+"""compare.py PROGRAM [COUNT]: asks node and the built program `bowtie_harness` of the same patterns, those written out in written.js and COUNT
+random ones of the whole grammar (3000 where it is not said), and prints how many both answer alike, both refuse, one alone reads, or answer
+differently. The program is asked of each pattern by a schema of `pattern` alone, and of each subject by an instance; node with the flag u where it
+reads the pattern so, else without."""
 import collections
 import json
 import os
@@ -18,17 +19,22 @@ def command(pattern, subjects):
     return json.dumps({"cmd": "run", "seq": 0, "case": {"schema": {"pattern": pattern}, "tests": tests}})
 
 
+def digit(result):
+    """The answer to one subject; `?` is a match that is left unfinished."""
+    return {True: "1", False: "0", None: "?"}[result.get("valid")]
+
+
 def mark(reply):
-    """A reply of the program as a line of node's answers: `+` and a digit for each subject, or `-`."""
+    """A reply of the program: `-` where it refuses, else a digit for each subject."""
     results = json.loads(reply).get("results")
-    return "-" if results is None else "+" + "".join("1" if result["valid"] else "0" for result in results)
+    return "-" if results is None else "+" + "".join(map(digit, results))
 
 
 def answers(program, count):
     """The rows, and a line of each side for each."""
     with tempfile.TemporaryDirectory() as folder:
         written, node = folder + "/rows", folder + "/answers"
-        subprocess.run(["node", HERE + "/rows.js", count, "1000", written, node], check=True)
+        subprocess.run(["node", HERE + "/rows.js", count, written, node], check=True)
         with open(written, encoding="utf-8") as lines, open(node, encoding="utf-8") as told:
             rows, theirs = [json.loads(line) for line in lines], told.read().splitlines()
     commands = "".join(command(pattern, subjects) + "\n" for pattern, *subjects in rows)
@@ -36,13 +42,19 @@ def answers(program, count):
     return rows, theirs, [mark(reply) for reply in replies.splitlines()]
 
 
+def agree(theirs, ours):
+    """Whether no digit differs, where node has one and the program has one."""
+    return all(their == our or their == "." or our == "?" for their, our in zip(theirs, ours))
+
+
 def kind(theirs, ours):
     """How the two lines stand to each other."""
-    if theirs[0] == "-":
-        return "both refuse" if ours[0] != "+" else "only the program reads"
-    if ours[0] != "+":
-        return "only node reads"
-    return "alike" if theirs == ours else "different"
+    if theirs == "-":
+        return "both refuse" if ours == "-" else "only the program reads"
+    grammar = {"u": "with the flag u", "o": "older grammar"}[theirs[0]]
+    if ours == "-":
+        return "only node reads, " + grammar
+    return ("alike, " if agree(theirs[1:], ours[1:]) else "different, ") + grammar
 
 
 def main(program, count="3000"):
@@ -50,8 +62,9 @@ def main(program, count="3000"):
     found = collections.defaultdict(list)
     for row, their_line, our_line in zip(rows, theirs, ours):
         found[kind(their_line, our_line)].append(row[0])
-    for name, patterns in found.items():
-        print(len(patterns), name, "" if name in ("alike", "both refuse") else patterns[:SHOWN])
+    for name, patterns in sorted(found.items()):
+        print(len(patterns), name, "" if name.startswith(("alike", "both")) else patterns[:SHOWN])
+    print(sum(line.count("?") for line in ours), "matches left unfinished")
 
 
 if __name__ == "__main__":
