@@ -253,6 +253,31 @@ const OF_TEMPLATES_AND_ADDRESSES: [Case; 55] = [
     ("email", "e@bücher.example", false),
 ];
 
+/// Durations in letters of either case, and literals of addresses in mail.
+///
+/// By RFC 3339, appendix A, with RFC 5234, section 2.3; by RFC 5321, section 4.1.3.
+const OF_EITHER_CASE_AND_LITERALS: [Case; 19] = [
+    ("duration", "p1d", true),
+    ("duration", "p4dt12h30m5s", true),
+    ("duration", "P1yT2h", true),
+    ("duration", "p", false),
+    ("duration", "1d", false),
+    ("email", "joe.bloggs@[127.0.0.1]", true),
+    ("email", "joe.bloggs@[127.000.000.001]", true),
+    ("email", "joe.bloggs@[256.0.0.1]", false),
+    ("email", "joe.bloggs@[0127.0.0.1]", false),
+    ("email", "joe.bloggs@[127.0.1]", false),
+    ("email", "joe.bloggs@[ipv6:::1]", true),
+    ("email", "joe.bloggs@[::1]", false),
+    ("email", "joe.bloggs@[IPv6:1:2:3:4:5:6:7:8]", true),
+    ("email", "joe.bloggs@[IPv6:1:2:3:4:5:6::]", true),
+    ("email", "joe.bloggs@[IPv6:1:2:3:4:5:6:7::]", false),
+    ("email", "joe.bloggs@[IPv6:1:2:3:4:5:6:127.0.0.001]", true),
+    ("email", "joe.bloggs@[IPv6:1:2:3:4::127.0.0.1]", true),
+    ("email", "joe.bloggs@[IPv6:1:2:3:4:5::127.0.0.1]", false),
+    ("ipv6", "1:2:3:4:5:6:7::", true),
+];
+
 /// Returns whether the answer for a case's text is the wanted one.
 fn is_told(case: &Case) -> bool {
     match Format::named(case.0) {
@@ -271,5 +296,8 @@ fn texts_are_told_as_wanted(rt: HostRuntime) {
     }
     for case in &OF_TEMPLATES_AND_ADDRESSES {
         assert!(rt; is_told(case), "{} by its grammar: {}", case.0, case.1);
+    }
+    for case in &OF_EITHER_CASE_AND_LITERALS {
+        assert!(rt; is_told(case), "{} of its grammar: {}", case.0, case.1);
     }
 }
