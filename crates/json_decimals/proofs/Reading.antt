@@ -1,5 +1,5 @@
 -- Which decimals read as a float, by their order.
-use Rattle.std.proofs.Common.{◌≡◌, ℕ, zero, suc, ℤ, pos, negsuc, Bool, true, false, not, leb, ◌+◌, ◌-◌, ◌*◌, ◌^◌, ◌<◌, ◌≤◌, T, ◌⊎◌, inl, inr, refl, sym, ap, subst, ◌∙◌, arith, Some, None, true≢false, mul-pos, mul-le-mul_left, mul-le-mul_right}
+use Rattle.std.proofs.Common.{◌≡◌, ℕ, zero, suc, ℤ, pos, negsuc, Bool, true, false, not, cond, ◌&&◌, leb, ◌+◌, ◌-◌, ◌*◌, ◌^◌, ◌<◌, ◌≤◌, T, ◌⊎◌, inl, inr, refl, sym, ap, subst, ◌∙◌, arith, Some, None, true≢false, mul-pos, mul-le-mul_left, mul-le-mul_right}
 use Rattle.std.proofs.Math.Nat.{le_refl, mul_assoc, zero-mul}
 use Rattle.std.specs.Bool.{fails, passes}
 use Rattle.std.specs.Float.{binary64, float_is_finite, float_with_sign, is_normal, ◌≤ᶠ◌, ◌<ᶠ◌, NotNan}
@@ -12,7 +12,7 @@ use lib.Ieee.{Float, nan, inf, fin, down, eq, is_nan, le, lt, of_bits, round, up
 use lib.Ieee.Fits.{up_pos}
 use lib.Ieee.Order.{round_mono}
 use lib.Ieee.Positive.{above_of_le, le→cross}
-use Rattle.json_decimals.specs.Decimals.{decimal, decimal_or_exact, digits_at, is_short_at, read, short_power}
+use Rattle.json_decimals.specs.Decimals.{exact, is_small_integer, written, decimal, decimal_or_exact, digits_at, is_short_at, read, short_power}
 use Rattle.json_decimals.proofs.Uniqueness.{digits_are, same_decimal}
 
 -- ---- what is read keeps the order
@@ -223,3 +223,14 @@ missed_by_tests x p g normal positive within powers next_powers digits next_digi
       | inr over ↦ fails _ (sym (over inside))
     ])
     other
+
+-- ---- what a reader may want to know of the definition
+
+-- A decimal of at most 15 digits that reads as a float is what the float stands for, if the float is normal and no integer below 2 ^ 64.
+pub written_as : (x : Float) (k p : ℕ) → is_normal binary64 x ≡ true → float_with_sign false x ≡ x → is_small_integer x ≡ false → k ≤ 10 ^ 15 → p < 801
+    → eq (read k p) x ≡ true → written x ≡ decimal k p
+written_as x k p normal positive fraction few within reads =
+    let short = decimal_or_exact x (short_power x 801) in
+    ap (λ b. cond (b && not (is_small_integer x)) short (exact x)) normal
+    ∙ ap (λ b. cond (not b) short (exact x)) fraction
+    ∙ found x k p normal positive few within reads

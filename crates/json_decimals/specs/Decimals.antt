@@ -2,7 +2,8 @@
 -- An integer of 64 bits is held without loss, and so stands for itself. Another number is held as
 -- the binary64 float nearest to it, and the text is lost. Such a float stands for the decimal of at
 -- most 15 significant digits that reads as it, if there is one, else for its exact value. 15 digits
--- survive the way through a float, so this is the decimal that was written, if that had no more.
+-- survive the way through a float, so this is the decimal that was written, if that had no more
+-- (`Reading.written_as`).
 --
 -- Two kinds of float stand for their exact value at once. An integer below 2 ^ 64 might as well be
 -- held as an integer, and equal numbers stand for one value. Below 2 ^ -1022, the least normal
