@@ -14,8 +14,6 @@ mod reader;
 mod states;
 mod steps;
 mod terms;
-#[cfg(test)]
-mod tests;
 
 pub use errors::ReadError;
 pub use pattern_characters::{Fault, Kind, OutOfMemory};

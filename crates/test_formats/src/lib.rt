@@ -1,9 +1,11 @@
-//! Tests of the formats of `text_formats`, and of those of `standard_formats` that need memory.
+//! Tests of formats, by `text_formats` and `standard_formats`, and of patterns, by `pattern_reader`.
 #![tactic(auto)]
 
 #[cfg(test)]
 mod contents;
 #[cfg(test)]
 mod idn_hostnames;
+#[cfg(test)]
+mod patterns;
 #[cfg(test)]
 mod tests;

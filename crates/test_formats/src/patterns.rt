@@ -1,6 +1,6 @@
-//! Texts, and what they are read as.
+//! Texts, and what they are read as by `pattern_reader`.
 
-use crate::reader::read;
+use pattern_reader::read;
 use std::alloc::AllocError;
 
 /// A text, the number of its groups, and whether it has a back reference.
