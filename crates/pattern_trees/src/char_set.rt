@@ -1,17 +1,20 @@
 //! Sets of characters.
-ghost use Rattle.std.specs.Prelude.{◌≡◌, ◌<◌, ◌+◌, ◌==◌, ℕ, true, if◌then◌else◌};
+ghost use Rattle.std.specs.Prelude.{◌≡◌, ◌<◌, ◌≤◌, ◌+◌, ◌==◌, ℕ, true, if◌then◌else◌};
 ghost use Rattle.std.specs.Int.{bit_at};
-ghost use Rattle.pattern_trees.specs.Sets.{in_set};
+ghost use Rattle.pattern_trees.specs.Sets.{IsInOrder, in_set};
 
 /// A set of characters: spans from a first to a last code point.
 ///
-/// A bit for each ASCII character answers most questions without the spans.
+/// A bit for each ASCII character answers most questions without the spans. Other characters are
+/// looked up in the spans: by halves, if those are in order.
 #[derive(Drop)]
 pub struct CharSet {
     /// The first and the last code point of each span.
     pub spans: Vec<(u32, u32)>,
     low: u64,
     mid: u64,
+    is_in_order: bool,
+    ghost order: { is_in_order ≡ true → IsInOrder spans.items },
     ghost low_bits: { (c : ℕ) → c < 64 → (bit_at low c == 1) ≡ in_set spans.items c },
     ghost mid_bits: { (c : ℕ) → c < 64 → (bit_at mid c == 1) ≡ in_set spans.items (64 + c) },
 }
@@ -23,7 +26,13 @@ impl CharSet {
     {
         let low = bits_from(spans.as_slice(), 0);
         let mid = bits_from(spans.as_slice(), 64);
-        CharSet { spans, low, mid }
+        let is_in_order = are_in_order(spans.as_slice());
+        CharSet {
+            spans,
+            low,
+            mid,
+            is_in_order,
+        }
     }
 
     /// Returns whether a character is in the set.
@@ -32,14 +41,50 @@ impl CharSet {
         ensures has { result ≡ in_set self.now.spans.items c }
     {
         let c = c as u32;
-        if c < 64 {
-            return (self.low >> c) & 1 == 1;
-        }
         if c < 128 {
-            return (self.mid >> (c - 64)) & 1 == 1;
+            let word = if c < 64 { self.low } else { self.mid };
+            return (word >> (c % 64)) & 1 == 1;
+        }
+        if self.is_in_order {
+            return is_found(self.spans.as_slice(), c);
         }
         is_in(self.spans.as_slice(), c)
     }
+}
+
+// Returns whether each span ends before the next one begins, and none before it begins.
+fn are_in_order(spans: &[(u32, u32)]) -> bool
+    ensures order { result ≡ true → IsInOrder spans.now }
+{
+    for i in 0..spans.len() {
+        if spans[i].1 < spans[i].0 {
+            return false;
+        }
+        if 0 < i && spans[i].0 <= spans[i - 1].1 {
+            return false;
+        }
+    }
+    true
+}
+
+// Returns whether a code point is in one of the spans, which are in order.
+fn is_found(spans: &[(u32, u32)], c: u32) -> bool
+    requires order { IsInOrder spans.now }
+    ensures has { result ≡ in_set spans.now c }
+{
+    let mut first = 0;
+    let mut end = spans.len();
+    'halves: while first < end {
+        let middle = first + (end - first) / 2;
+        if c < spans[middle].0 {
+            end = middle;
+        } else if spans[middle].1 < c {
+            first = middle + 1;
+        } else {
+            return true;
+        }
+    }
+    false
 }
 
 // Returns whether a code point is in one of the spans.
