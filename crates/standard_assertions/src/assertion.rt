@@ -133,6 +133,7 @@ impl TellingKeyword for Assertion {
         }
     }
 
+    #[inline(always)]
     fn holds_at_once(&self, instance: Instance<'_>) -> Option<bool> {
         match self {
             Assertion::UniqueItems if FEW < item_count(instance) => None,
