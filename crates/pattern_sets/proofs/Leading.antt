@@ -1,8 +1,8 @@
 -- Images, as they are found.
-use Rattle.std.proofs.Common.{◌≡◌, ◌<◌, ◌≤◌, ◌==◌, ◌||◌, ◌+◌, ℕ, Bool, true, false, cond, ap, refl, subst, sym, ◌∙◌, ◌⊎◌, inl, inr, arith, nat_lt, true≢false}
-use Rattle.std.proofs.lemmas.Bool.{eqb-true}
+use Rattle.std.proofs.Common.{not, ◌&&◌, ◌≢◌, ◌≡◌, ◌<◌, ◌≤◌, ◌==◌, ◌||◌, ◌+◌, ℕ, Bool, true, false, cond, ap, refl, subst, sym, ◌∙◌, ◌⊎◌, inl, inr, arith, nat_lt, true≢false}
+use Rattle.std.proofs.lemmas.Bool.{eqb-false, eqb-true}
 use Rattle.std.proofs.lemmas.Bool.Decides.{nat_tests}
-use Rattle.pattern_sets.specs.Images.{IsImage, IsImageBelow, Joined}
+use Rattle.pattern_sets.specs.Images.{IsImage, IsImageBelow, IsImageBut, Joined}
 
 pub image_map : (R S : ℕ → ℕ → Type 0) (from to : ℕ → Bool) → IsImage R from to → ((i j : ℕ) → R i j → S i j) → ((i j : ℕ) → S i j → R i j) → IsImage S from to
 image_map R S from to image there back = record {
@@ -81,6 +81,97 @@ below_ends R i from to below none = record {
     go : (k j : ℕ) → from k ≡ true → R k j → (x : Bool) → nat_lt k i ≡ x → to j ≡ true
     go k j h r true e = below.complete k j (grind (arith, nat_tests)) h r
     go k j h r false e = let ge : i ≤ k = grind (arith, nat_tests) in absurd (true≢false (sym h ∙ none k ge))
+
+-- ---- positions that are looked at in any order, and what is left of them
+
+abbrev pub IsPartOf : (ℕ → Bool) → (ℕ → Bool) → Type 0
+IsPartOf part whole = (k : ℕ) → part k ≡ true → whole k ≡ true
+
+pub is_same : (k m : ℕ) (none : Bool) → none ≡ false → cond (k == m) true none ≡ (k == m)
+is_same k m none e = go (k == m)
+  where
+    go : (x : Bool) → cond x true none ≡ x
+    go true = refl
+    go false = e
+
+left_of : (m : ℕ) (old left : ℕ → Bool) → ((k : ℕ) → left k ≡ (old k && not (k == m))) → (k : ℕ) → left k ≡ true → old k ≡ true
+left_of m old left rest k h = go (old k) (sym (rest k) ∙ h)
+  where
+    go : (x : Bool) → (x && not (k == m)) ≡ true → x ≡ true
+    go true e = refl
+    go false e = e
+
+pub left_part : (m : ℕ) (from old left : ℕ → Bool) → IsPartOf old from → ((k : ℕ) → left k ≡ (old k && not (k == m))) → IsPartOf left from
+left_part m from old left part rest k h = part k (left_of m old left rest k h)
+
+pub left_was : (m : ℕ) (old left : ℕ → Bool) → ((k : ℕ) → left k ≡ (old k && not (k == m))) → (k : ℕ) → not (old k) ≡ true → not (left k) ≡ true
+left_was m old left rest k h = ap not (rest k) ∙ go (old k) h
+  where
+    go : (x : Bool) → not x ≡ true → not (x && not (k == m)) ≡ true
+    go true e = absurd (true≢false (sym e))
+    go false e = refl
+
+pub left_there : (m : ℕ) (old left : ℕ → Bool) → ((k : ℕ) → left k ≡ (old k && not (k == m))) → not (left m) ≡ true
+left_there m old left rest = ap not (rest m) ∙ go (old m) (m == m) (same m)
+  where
+    same : (k : ℕ) → (k == k) ≡ true
+    same k = grind (arith, nat_tests)
+
+    go : (x y : Bool) → y ≡ true → not (x && not y) ≡ true
+    go true true e = refl
+    go false true e = refl
+    go x false e = absurd (true≢false (sym e))
+
+-- a position that is no longer left was not left before, or is the one at hand
+gone : (m : ℕ) (old left : ℕ → Bool) → ((k : ℕ) → left k ≡ (old k && not (k == m))) → (k : ℕ) → left k ≡ false → (old k ≡ false) ⊎ (k ≡ m)
+gone m old left rest k h = go (k == m) refl (old k) refl (sym (rest k) ∙ h)
+  where
+    go : (x : Bool) → (k == m) ≡ x → (y : Bool) → old k ≡ y → (y && not x) ≡ false → (y ≡ false) ⊎ (k ≡ m)
+    go true e y f h = inr (eqb-true k m e)
+    go false e true f h = absurd (true≢false h)
+    go false e false f h = inl refl
+
+pub but_begins : (R : ℕ → ℕ → Type 0) (from to : ℕ → Bool) → ((k : ℕ) → to k ≡ false) → IsImageBut from R from to
+but_begins R from to none = record {
+  sound = λ j h. absurd (true≢false (sym h ∙ none j));
+  complete = λ k j f l r. absurd (true≢false (sym f ∙ l));
+}
+
+pub but_skip : (R : ℕ → ℕ → Type 0) (m : ℕ) (from old left to : ℕ → Bool) → IsImageBut old R from to → ((k : ℕ) → left k ≡ (old k && not (k == m))) → ((j : ℕ) → ¬ (R m j)) → IsImageBut left R from to
+but_skip R m from old left to but rest none = record {
+  sound = but.sound;
+  complete = λ k j f l r. elim (gone m old left rest k l) [
+    | inl before ↦ but.complete k j f before r
+    | inr at ↦ absurd (none j (subst (λ (q : ℕ). R q j) at r))
+  ];
+}
+
+pub but_put : (R : ℕ → ℕ → Type 0) (m p : ℕ) (from old left to new : ℕ → Bool) → IsImageBut old R from to → from m ≡ true → ((k : ℕ) → left k ≡ (old k && not (k == m))) → R m p → ((j : ℕ) → R m j → j ≡ p) →
+    ((k : ℕ) → new k ≡ cond (k == p) true (to k)) → IsImageBut left R from new
+but_put R m p from old left to new but here rest there only put = record { sound = sound; complete = complete }
+  where
+    sound : (j : ℕ) → new j ≡ true → (k : ℕ) × (from k ≡ true) × R k j
+    sound j h = go (j == p) refl
+      where
+        go : (x : Bool) → (j == p) ≡ x → (k : ℕ) × (from k ≡ true) × R k j
+        go true e = (m, here, subst (λ (q : ℕ). R m q) (sym (eqb-true j p e)) there)
+        go false e = but.sound j (sym (put j ∙ ap (λ (b : Bool). cond b true (to j)) e) ∙ h)
+
+    complete : (k j : ℕ) → from k ≡ true → left k ≡ false → R k j → new j ≡ true
+    complete k j f l r = elim (gone m old left rest k l) [
+      | inl before ↦ put j ∙ ap (λ (b : Bool). cond (j == p) true b) (but.complete k j f before r) ∙ either (j == p)
+      | inr at ↦ (let e = only j (subst (λ (q : ℕ). R q j) at r) in put j ∙ ap (λ (b : Bool). cond b true (to j)) (same j e))
+    ]
+      where
+        either : (b : Bool) → cond b true true ≡ true
+        either true = refl
+        either false = refl
+
+        same : (j : ℕ) → j ≡ p → (j == p) ≡ true
+        same j e = grind (arith, nat_tests)
+
+pub but_ends : (R : ℕ → ℕ → Type 0) (from left to : ℕ → Bool) → IsImageBut left R from to → ((k : ℕ) → left k ≡ false) → IsImage R from to
+but_ends R from left to but none = record { sound = but.sound; complete = λ k j f r. but.complete k j f (none k) r }
 
 -- ---- one relation after another, and one beside another
 

@@ -33,10 +33,10 @@ either_image false a b text from other left right to same first second union = c
 abbrev pub Sees : Bool → Pattern → List ℕ → ℕ → Type 0
 Sees ahead p text i = (k : ℕ) × (k ≤ length text) × Leads ahead (λ x y. Matches p text x y) i k
 
-le_of : (a b : ℕ) → nat_le a b ≡ true → a ≤ b
+pub le_of : (a b : ℕ) → nat_le a b ≡ true → a ≤ b
 le_of a b h = grind (arith, nat_tests)
 
-of_le : (a b : ℕ) → a ≤ b → nat_le a b ≡ true
+pub of_le : (a b : ℕ) → a ≤ b → nat_le a b ≡ true
 of_le a b h = grind (arith, nat_tests)
 
 -- what is found from all positions, read the other way, is where the body is seen
@@ -54,15 +54,15 @@ seen false p text all found every image = record {
   no = λ i h s. true≢false (sym (image.complete s.0 i (every s.0 ∙ of_le s.0 (length text) s.1) s.2) ∙ h);
 }
 
-and_left : (a b : Bool) → (a && b) ≡ true → a ≡ true
+pub and_left : (a b : Bool) → (a && b) ≡ true → a ≡ true
 and_left true b h = refl
 and_left false b h = h
 
-and_right : (a b : Bool) → (a && b) ≡ true → b ≡ true
+pub and_right : (a b : Bool) → (a && b) ≡ true → b ≡ true
 and_right true b h = h
 and_right false b h = absurd (true≢false (sym h))
 
-and_both : (a b : Bool) → a ≡ true → b ≡ true → (a && b) ≡ true
+pub and_both : (a b : Bool) → a ≡ true → b ≡ true → (a && b) ≡ true
 and_both true b h k = k
 and_both false b h k = h
 
@@ -82,7 +82,7 @@ turned P from to image =
     image_map (λ i j. P i × (i ≡ j)) (λ i j. P j × (j ≡ i)) from to image
     (λ i j r. (subst P r.1 r.0, sym r.1)) (λ i j r. (subst P r.1 r.0, sym r.1))
 
-look_either_way : (forward ahead wanted : Bool) (p : Pattern) (text : List ℕ) (from to : ℕ → Bool) → IsImage (λ i j. IfWanted wanted (Sees ahead p text i) × (i ≡ j)) from to → IsImage (leads forward (Look ahead wanted p) text) from to
+pub look_either_way : (forward ahead wanted : Bool) (p : Pattern) (text : List ℕ) (from to : ℕ → Bool) → IsImage (λ i j. IfWanted wanted (Sees ahead p text i) × (i ≡ j)) from to → IsImage (leads forward (Look ahead wanted p) text) from to
 look_either_way true ahead wanted p text from to image = image
 look_either_way false ahead wanted p text from to image = turned (λ i. IfWanted wanted (Sees ahead p text i)) from to image
 

@@ -30,6 +30,11 @@ pub record IsImageBelow (i : ℕ) (R : ℕ → ℕ → Type 0) (from to : ℕ �
   pub sound : (j : ℕ) → to j ≡ true → (k : ℕ) × (k < i) × (from k ≡ true) × R k j
   pub complete : (k j : ℕ) → k < i → from k ≡ true → R k j → to j ≡ true
 
+-- the part of an image that comes from positions which are not left
+pub record IsImageBut (left : ℕ → Bool) (R : ℕ → ℕ → Type 0) (from to : ℕ → Bool) : Type 0 where
+  pub sound : (j : ℕ) → to j ≡ true → (k : ℕ) × (from k ≡ true) × R k j
+  pub complete : (k j : ℕ) → from k ≡ true → left k ≡ false → R k j → to j ≡ true
+
 -- one round of a search: fresh positions lead to the next ones, which are none of those that were reached before
 pub record Spreads (R : ℕ → ℕ → Type 0) (all fresh new next : ℕ → Bool) : Type 0 where
   pub added : (k : ℕ) → new k ≡ (all k || next k)
@@ -65,6 +70,11 @@ most_within longest (Some more) = more
 -- a position of a word
 abbrev pub in_word : ℕ → ℕ → Bool
 in_word word k = bit_at word k == 1
+
+-- whether a relation leads from a set to a position up to the last one
+pub record Reaches (R : ℕ → ℕ → Type 0) (last : ℕ) (from : ℕ → Bool) (found : Bool) : Type 0 where
+  pub yes : found ≡ true → (i : ℕ) × (j : ℕ) × (from i ≡ true) × (j ≤ last) × R i j
+  pub no : found ≡ false → (i j : ℕ) → from i ≡ true → j ≤ last → ¬ (R i j)
 
 -- a set of at most one position
 abbrev pub IsOne : (ℕ → Bool) → Type 0

@@ -1,12 +1,12 @@
 //! One step of a pattern on words, and any number of steps over one set.
-ghost use Rattle.std.specs.Prelude.{◌≡◌, ◌<◌, ◌≤◌, ◌+◌, ◌-◌, ◌==◌, ◌&&◌, ◌||◌, ◌^◌, ℕ, Some, None, MatchOption, length, true, false, nat_le};
+ghost use Rattle.std.specs.Prelude.{◌≡◌, ◌<◌, ◌≤◌, ◌+◌, ◌-◌, ◌==◌, ◌&&◌, ◌||◌, ◌^◌, ℕ, Some, None, MatchOption, length, not, true, false, nat_le};
 ghost use Rattle.pattern_trees.specs.Patterns.{At, One, Repeat};
-ghost use Rattle.pattern_sets.specs.Images.{IsImage, IsTaken, RunsFor, Steps, in_word, leads};
+ghost use Rattle.pattern_sets.specs.Images.{IsImage, IsTaken, Reaches, RunsFor, Steps, in_word, leads};
 
 use crate::at_position::{is_at, takes};
 use crate::runs::{after_run, run_end};
 use crate::turns::most_turns;
-use pattern_rows::{both, lowest, ones, with, with_span};
+use pattern_rows::{both, lowest, ones, with, with_span, without};
 use pattern_trees::{CharSet, Edge};
 
 /// Returns the next position of a word from one on.
@@ -48,20 +48,44 @@ fn only(word: u64, position: usize) -> u64
     both(word, with(0, position))
 }
 
+// Returns a word without one of its positions.
+#[inline(always)]
+fn without_one(word: u64, position: usize) -> u64
+    requires within { position < 64 }
+    ensures rest { (k : ℕ) → in_word result k ≡ (in_word word k && not (k == position)) }
+{
+    without(word, with(0, position))
+}
+
 /// Returns where one character of a set leads, on.
 pub fn step_on(set: &CharSet, text: &[char], from: u64) -> u64
     requires short { length text.now < 64 }
     ensures walks { IsImage (leads true (One set.now.spans.items) text.now) (in_word from) (in_word result) }
 {
     let mut to = 0u64;
-    let mut i = 0;
-    'steps: while let Some(m) = next(from, i) {
+    let mut left = from;
+    'steps: while let Some(m) = lowest(left, 0) {
         if takes(set, text, m) {
             to = with(to, m + 1);
         }
-        i = m + 1;
+        left = without_one(left, m);
     }
     to
+}
+
+/// Returns whether one character of a set leads on anywhere.
+pub fn step_reaches(set: &CharSet, text: &[char], from: u64) -> bool
+    requires short { length text.now < 64 }
+    ensures reaches { Reaches (leads true (One set.now.spans.items) text.now) (length text.now) (in_word from) result }
+{
+    let mut i = 0;
+    'steps: while let Some(m) = next(from, i) {
+        if takes(set, text, m) {
+            return true;
+        }
+        i = m + 1;
+    }
+    false
 }
 
 // Returns whether there is a character before a position, in a set.

@@ -3,10 +3,12 @@ ghost use Rattle.std.specs.Prelude.{◌≡◌, ◌<◌, ◌≤◌, ◌+◌, ◌-
 ghost use Rattle.pattern_trees.specs.Nodes.{node_of};
 ghost use Rattle.pattern_trees.specs.Patterns.{Either, IsFound, Iterates, Look, Repeat};
 ghost use Rattle.pattern_trees.specs.Trees.{pattern_of};
-ghost use Rattle.pattern_sets.specs.Images.{IsImage, IsOne, Joined, Spreads, Steps, in_word, leads};
+ghost use Rattle.pattern_sets.specs.Images.{IsImage, IsOne, Joined, Reaches, Spreads, Steps, in_word, leads};
 
 use crate::turns::more_turns;
-use crate::word_steps::{all, keep_edges, next, run_back, step_back, step_on, times_on};
+use crate::word_steps::{
+    all, keep_edges, next, run_back, step_back, step_on, step_reaches, times_on,
+};
 use pattern_rows::{both, either, without};
 use pattern_trees::Tree;
 
@@ -119,13 +121,54 @@ fn word_peek(ahead: bool, wanted: bool, body: &Tree, text: &[char], forward: boo
     requires short { length text.now < 64 }
     ensures walks { IsOne (in_word from) → IsImage (leads forward (Look ahead wanted (pattern_of (node_of body.now))) text.now) (in_word from) (in_word result) }
 {
-    let led = word_walk(body, text, ahead, from);
-    let near = both(led, all(text.len()));
-    if near == 0 {
-        if wanted { 0 } else { from }
-    } else {
+    if word_reaches(body, text, ahead, from) {
         if wanted { from } else { 0 }
+    } else {
+        if wanted { 0 } else { from }
     }
+}
+
+// Returns whether a pattern leads anywhere within the text.
+//
+// It does not look for each position that the last character leads to.
+#[cycle(word_walk)]
+fn word_reaches(tree: &Tree, text: &[char], forward: bool, from: u64) -> bool
+    requires short { length text.now < 64 }
+    ensures reaches { Reaches (leads forward (pattern_of (node_of tree.now)) text.now) (length text.now) (in_word from) result }
+{
+    match tree {
+        Tree::OneOf(set) if forward => step_reaches(set, text, from),
+        Tree::Pair(a, b) => {
+            if forward {
+                both_reach(a, b, text, forward, from)
+            } else {
+                walk_reaches(tree, text, forward, from)
+            }
+        }
+        Tree::Group(_, body) => word_reaches(body, text, forward, from),
+        _ => walk_reaches(tree, text, forward, from),
+    }
+}
+
+// Returns whether one pattern leads to where another leads on.
+#[cycle(word_walk)]
+fn both_reach(a: &Tree, b: &Tree, text: &[char], forward: bool, from: u64) -> bool
+    requires short { length text.now < 64 }
+    ensures reaches { Reaches (Joined (leads forward (pattern_of (node_of a.now)) text.now) (leads forward (pattern_of (node_of b.now)) text.now)) (length text.now) (in_word from) result }
+{
+    let mid = word_walk(a, text, forward, from);
+    word_reaches(b, text, forward, mid)
+}
+
+// Returns whether a pattern leads anywhere within the text, by all positions that it leads to.
+#[cycle(word_walk)]
+fn walk_reaches(tree: &Tree, text: &[char], forward: bool, from: u64) -> bool
+    requires short { length text.now < 64 }
+    ensures reaches { Reaches (leads forward (pattern_of (node_of tree.now)) text.now) (length text.now) (in_word from) result }
+{
+    let led = word_walk(tree, text, forward, from);
+    let near = both(led, all(text.len()));
+    near != 0
 }
 
 // Returns the positions where a lookaround holds.

@@ -1,17 +1,23 @@
-use Rattle.std.proofs.Common.{◌≡◌, ◌≤◌, ◌+◌, ◌||◌, ◌∙◌, ℕ, Some, None, length, false, arith, refl, sym, subst}
-use Rattle.pattern_trees.specs.Patterns.{Iterates}
+use Rattle.std.proofs.Common.{◌≡◌, ◌≤◌, ◌+◌, ◌==◌, ◌&&◌, ◌||◌, ◌∙◌, Bool, ℕ, Some, None, List, ap, length, not, true, false, true≢false, arith, refl, sym, subst}
+use Rattle.std.proofs.lemmas.Bool.Decides.{nat_tests}
+use Rattle.pattern_trees.specs.declared.tree.Tree.{Tree}
+use Rattle.pattern_trees.specs.Patterns.{Iterates, Then}
 use Rattle.pattern_rows.proofs.Bits.{no_bit_of_zero, some_bit}
-use Rattle.pattern_sets.specs.Images.{IsImage, in_word, leads}
+use Rattle.pattern_sets.specs.Images.{IsImage, Joined, Reaches, in_word, leads}
 use Rattle.pattern_trees.specs.Nodes.{node_of}
 use Rattle.pattern_trees.specs.Trees.{pattern_of}
 use Rattle.pattern_sets.proofs.Leading.{or_left, or_right}
-use Rattle.pattern_sets.proofs.Reaching.{exact_fixed, exact_goes_on, image_as, missing_less, or_none, reached_ends, reached_goes_on, spreads_as, within_ends, within_goes_on}
-use Rattle.pattern_sets.proofs.Walking.{either_image, look_unwanted, look_wanted, peek_unwanted_none, peek_unwanted_some, peek_wanted_none, peek_wanted_some, peeking, repeat_image}
+use Rattle.pattern_sets.proofs.Reaching.{exact_fixed, exact_goes_on, image_as, missing_less, or_none, positive, reached_ends, reached_goes_on, spreads_as, within_ends, within_goes_on}
+use Rattle.pattern_sets.proofs.Walking.{either_image, look_unwanted, look_wanted, repeat_image}
+use Rattle.pattern_sets.proofs.Looking.{joined_reaches, look_everywhere, look_nowhere, unlook_everywhere, unlook_nowhere, walked_reaches}
 use Rattle.pattern_sets.proofs.word_walks.+word_walk.Goals as goal
 
 -- a word that is 0 has no position
 none_in : (word : ℕ) → word ≡ 0 → (k : ℕ) → in_word word k ≡ false
 none_in word e k = subst (λ (w : ℕ). in_word w k ≡ false) (sym e) (no_bit_of_zero k)
+
+nothing : (n : ℕ) → not (n == 0) ≡ false → n ≡ 0
+nothing n h = grind (arith, nat_tests)
 
 pub word_any-returns-then-more-eq0 : goal.word_any-returns-then-more-eq0
 word_any-returns-then-more-eq0 t c =
@@ -118,40 +124,65 @@ pub word_turns-returns-in-Some : goal.word_turns-returns-in-Some
 word_turns-returns-in-Some t c =
     record { walks = rw c.in-Some.is (repeat_image c.args.forward c.args.least (Some c.in-Some.most) (pattern_of (node_of c.args.body.now)) c.args.text.now (in_word c.args.from) (in_word c.word_exactly-after.result) (in_word c.word_at_most.result) c.word_exactly-after.ensures.leaves c.word_at_most.ensures.leaves) }
 
+pub both_reach-returns : goal.both_reach-returns
+both_reach-returns t c =
+    let text = c.args.text.now in
+    record {
+      reaches = joined_reaches (leads c.args.forward (pattern_of (node_of c.args.a.now)) text) (leads c.args.forward (pattern_of (node_of c.args.b.now)) text) (length text) (in_word c.args.from) (in_word c.word_walk-mid.result) c.word_reaches.result
+          c.word_walk-mid.ensures.walks c.word_reaches.ensures.reaches;
+    }
+
+pub walk_reaches-returns : goal.walk_reaches-returns
+walk_reaches-returns t c =
+    let text = c.args.text.now in
+    let led = in_word c.word_walk-led.result in
+    let near = c.both-near.result in
+    record {
+      reaches = walked_reaches (leads c.args.forward (pattern_of (node_of c.args.tree.now)) text) (length text) (in_word c.args.from) led (in_word near) (not (near == 0)) c.word_walk-led.ensures.walks
+          (λ k. c.both-near.ensures.bits k ∙ ap (λ (b : Bool). led k && b) (c.all.ensures.all k))
+          (λ h. let some = positive near h in let bit = some_bit near (omega arith) some in (bit.0, bit.2))
+          (λ h. none_in near (nothing near h));
+    }
+
+-- one pattern after the other, as they were read from their boxes
+pair_reaches : (forward found : Bool) (text : List ℕ) (from : ℕ → Bool) (a b x y : Tree) → forward ≡ true → x ≡ a → y ≡ b →
+    Reaches (Joined (leads forward (pattern_of (node_of x)) text) (leads forward (pattern_of (node_of y)) text)) (length text) from found → Reaches (leads forward (Then (pattern_of (node_of a)) (pattern_of (node_of b))) text) (length text) from found
+pair_reaches false found text from a b x y e d f r = absurd (true≢false (sym e))
+pair_reaches true found text from a b x y e d f r =
+    let first : Reaches (leads true (Then (pattern_of (node_of a)) (pattern_of (node_of y))) text) (length text) from found =
+    subst (λ (t : Tree). Reaches (leads true (Then (pattern_of (node_of t)) (pattern_of (node_of y))) text) (length text) from found) d (record { yes = r.yes; no = r.no }) in
+    subst (λ (t : Tree). Reaches (leads true (Then (pattern_of (node_of a)) (pattern_of (node_of t))) text) (length text) from found) f first
+
+pub word_reaches-returns-then-forward-2 : goal.word_reaches-returns-then-forward-2
+word_reaches-returns-then-forward-2 t c =
+    record {
+      reaches = rw c.in-Pair.is (pair_reaches c.args.forward c.both_reach.result c.args.text.now (in_word c.args.from) c.in-Pair.a.value c.in-Pair.b.value c.deref.result.now c.deref-then-forward-2.result.now c.if-forward-2.true c.deref.ensures c.deref-then-forward-2.ensures c.both_reach.ensures.reaches);
+    }
+
 pub word_peek-returns-then-wanted : goal.word_peek-returns-then-wanted
 word_peek-returns-then-wanted t c =
+    let p = pattern_of (node_of c.args.body.now) in
     record {
-      walks = λ one. rw c.if-wanted.true (peek_wanted_none c.args.forward c.args.ahead (pattern_of (node_of c.args.body.now)) c.args.text.now (in_word c.args.from) (in_word c.word_walk-led.result) (in_word c.both-near.result) (in_word 0)
-          (peeking c.args.ahead (pattern_of (node_of c.args.body.now)) c.args.text.now (in_word c.args.from) (in_word c.word_walk-led.result) (in_word c.both-near.result) (in_word c.all.result) one c.word_walk-led.ensures.walks c.both-near.ensures.bits c.all.ensures.all)
-          (none_in c.both-near.result c.if-near-eq0.true) no_bit_of_zero);
+      walks = λ one. rw c.if-wanted.true (look_everywhere c.args.forward c.args.ahead p c.args.text.now (in_word c.args.from) c.word_reaches.result one c.word_reaches.ensures.reaches c.if-word_reaches.true);
     }
 
 pub word_peek-returns-else-wanted : goal.word_peek-returns-else-wanted
 word_peek-returns-else-wanted t c =
+    let p = pattern_of (node_of c.args.body.now) in
     record {
-      walks = λ one. rw c.if-wanted.false (peek_unwanted_none c.args.forward c.args.ahead (pattern_of (node_of c.args.body.now)) c.args.text.now (in_word c.args.from) (in_word c.word_walk-led.result) (in_word c.both-near.result) (in_word c.args.from)
-          (peeking c.args.ahead (pattern_of (node_of c.args.body.now)) c.args.text.now (in_word c.args.from) (in_word c.word_walk-led.result) (in_word c.both-near.result) (in_word c.all.result) one c.word_walk-led.ensures.walks c.both-near.ensures.bits c.all.ensures.all)
-          (none_in c.both-near.result c.if-near-eq0.true) (λ k. refl));
+      walks = λ one. rw c.if-wanted.false (unlook_nowhere c.args.forward c.args.ahead p c.args.text.now (in_word c.args.from) (in_word 0) c.word_reaches.result one c.word_reaches.ensures.reaches c.if-word_reaches.true no_bit_of_zero);
     }
 
 pub word_peek-returns-then-wanted-2 : goal.word_peek-returns-then-wanted-2
 word_peek-returns-then-wanted-2 t c =
-    let near = c.both-near.result in
-    let off = c.if-near-eq0.false in
-    let bit = some_bit near (omega arith) (omega arith) in
+    let p = pattern_of (node_of c.args.body.now) in
     record {
-      walks = λ one. rw c.if-wanted-2.true (peek_wanted_some c.args.forward c.args.ahead (pattern_of (node_of c.args.body.now)) c.args.text.now (in_word c.args.from) (in_word c.word_walk-led.result) (in_word near) (in_word c.args.from)
-          (peeking c.args.ahead (pattern_of (node_of c.args.body.now)) c.args.text.now (in_word c.args.from) (in_word c.word_walk-led.result) (in_word near) (in_word c.all.result) one c.word_walk-led.ensures.walks c.both-near.ensures.bits c.all.ensures.all)
-          bit.0 bit.2 (λ k. refl));
+      walks = λ one. rw c.if-wanted-2.true (look_nowhere c.args.forward c.args.ahead p c.args.text.now (in_word c.args.from) (in_word 0) c.word_reaches.result one c.word_reaches.ensures.reaches c.if-word_reaches.false no_bit_of_zero);
     }
 
 pub word_peek-returns-else-wanted-2 : goal.word_peek-returns-else-wanted-2
 word_peek-returns-else-wanted-2 t c =
-    let near = c.both-near.result in
-    let off = c.if-near-eq0.false in
-    let bit = some_bit near (omega arith) (omega arith) in
+    let p = pattern_of (node_of c.args.body.now) in
     record {
-      walks = λ one. rw c.if-wanted-2.false (peek_unwanted_some c.args.forward c.args.ahead (pattern_of (node_of c.args.body.now)) c.args.text.now (in_word c.args.from) (in_word c.word_walk-led.result) (in_word near) (in_word 0)
-          (peeking c.args.ahead (pattern_of (node_of c.args.body.now)) c.args.text.now (in_word c.args.from) (in_word c.word_walk-led.result) (in_word near) (in_word c.all.result) one c.word_walk-led.ensures.walks c.both-near.ensures.bits c.all.ensures.all)
-          bit.0 bit.2 no_bit_of_zero);
+      walks = λ one. rw c.if-wanted-2.false (unlook_everywhere c.args.forward c.args.ahead p c.args.text.now (in_word c.args.from) c.word_reaches.result one c.word_reaches.ensures.reaches c.if-word_reaches.false);
     }

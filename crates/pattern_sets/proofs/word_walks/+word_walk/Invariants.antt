@@ -23,40 +23,49 @@ abbrev pub invariant-word_exactly-rounds : goal.invariant-word_exactly-rounds
 invariant-word_exactly-rounds l = IsImage (Iterates (leads l.forward (pattern_of (node_of l.body)) l.text) l._round) (in_word l.fn.from) (in_word l.at)
 
 abbrev pub decreases-word_walk : goal.decreases-word_walk
-decreases-word_walk l = 6 * size-Tree l.tree.now + 1
+decreases-word_walk l = 8 * size-Tree l.tree.now + 1
 
 abbrev pub decreases-word_lead : goal.decreases-word_lead
-decreases-word_lead l = 6 * size-Tree l.tree.now
+decreases-word_lead l = 8 * size-Tree l.tree.now
 
 abbrev pub decreases-word_both : goal.decreases-word_both
-decreases-word_both l = 6 * max (size-Tree l.a.now) (size-Tree l.b.now) + 3
+decreases-word_both l = 8 * max (size-Tree l.a.now) (size-Tree l.b.now) + 3
 
 abbrev pub decreases-word_first : goal.decreases-word_first
-decreases-word_first l = 6 * size-Tree l.tree.now + 2
+decreases-word_first l = 8 * size-Tree l.tree.now + 2
 
 abbrev pub decreases-word_choice : goal.decreases-word_choice
-decreases-word_choice l = 6 * max (size-Tree l.a.now) (size-Tree l.b.now) + 2
+decreases-word_choice l = 8 * max (size-Tree l.a.now) (size-Tree l.b.now) + 2
 
 abbrev pub decreases-word_look : goal.decreases-word_look
-decreases-word_look l = 6 * size-Tree l.body.now + 3
+decreases-word_look l = 8 * size-Tree l.body.now + 6
 
 abbrev pub decreases-word_peek : goal.decreases-word_peek
-decreases-word_peek l = 6 * size-Tree l.body.now + 2
+decreases-word_peek l = 8 * size-Tree l.body.now + 5
+
+abbrev pub decreases-word_reaches : goal.decreases-word_reaches
+decreases-word_reaches l = 8 * size-Tree l.tree.now + 3
+
+abbrev pub decreases-both_reach : goal.decreases-both_reach
+decreases-both_reach l = 8 * max (size-Tree l.a.now) (size-Tree l.b.now) + 4
+
+abbrev pub decreases-walk_reaches : goal.decreases-walk_reaches
+decreases-walk_reaches l = 8 * size-Tree l.tree.now + 2
 
 abbrev pub decreases-word_times : goal.decreases-word_times
-decreases-word_times l = 6 * size-Tree l.body.now + 5
+decreases-word_times l = 8 * size-Tree l.body.now + 5
 
 abbrev pub decreases-word_turns : goal.decreases-word_turns
-decreases-word_turns l = 6 * size-Tree l.body.now + 4
+decreases-word_turns l = 8 * size-Tree l.body.now + 4
 
 abbrev pub decreases-word_exactly : goal.decreases-word_exactly
-decreases-word_exactly l = 6 * size-Tree l.body.now + 2
+decreases-word_exactly l = 8 * size-Tree l.body.now + 2
 
 abbrev pub decreases-word_any : goal.decreases-word_any
-decreases-word_any l = 6 * size-Tree l.body.now + 3
+decreases-word_any l = 8 * size-Tree l.body.now + 3
 
 abbrev pub decreases-word_at_most : goal.decreases-word_at_most
-decreases-word_at_most l = 6 * size-Tree l.body.now + 3
+decreases-word_at_most l = 8 * size-Tree l.body.now + 3
 
 abbrev pub decreases-word_spread : goal.decreases-word_spread
-decreases-word_spread l = 6 * size-Tree l.body.now + 2
+decreases-word_spread l = 8 * size-Tree l.body.now + 2
