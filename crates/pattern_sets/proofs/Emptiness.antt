@@ -1,5 +1,5 @@
 -- Patterns that match the empty text at each position.
-use Rattle.std.proofs.Common.{◌≡◌, ◌≤◌, ◌+◌, ◌-◌, ℕ, zero, suc, Bool, true, false, refl, arith, List, Option, Some, None}
+use Rattle.std.proofs.Common.{◌+◌, ◌-◌, ℕ, zero, suc, Bool, true, false, refl, arith, List, Option, Some, None}
 use Rattle.pattern_trees.specs.Patterns.{IsWithin, Iterates, Matches, Pattern, Repeat}
 use Rattle.pattern_sets.specs.Images.{IsImage, MatchesEmpty, Steps, leads}
 use Rattle.pattern_sets.proofs.Iterating.{iterates_add}

@@ -1,6 +1,6 @@
 -- Images, as they are found.
-use Rattle.std.proofs.Common.{not, ◌&&◌, ◌≢◌, ◌≡◌, ◌<◌, ◌≤◌, ◌==◌, ◌||◌, ◌+◌, ℕ, Bool, true, false, cond, ap, refl, subst, sym, ◌∙◌, ◌⊎◌, inl, inr, arith, nat_lt, true≢false}
-use Rattle.std.proofs.lemmas.Bool.{eqb-false, eqb-true}
+use Rattle.std.proofs.Common.{not, ◌&&◌, ◌≡◌, ◌<◌, ◌≤◌, ◌==◌, ◌||◌, ◌+◌, ℕ, Bool, true, false, cond, ap, refl, subst, sym, ◌∙◌, ◌⊎◌, inl, inr, arith, nat_lt, true≢false}
+use Rattle.std.proofs.lemmas.Bool.{eqb-true}
 use Rattle.std.proofs.lemmas.Bool.Decides.{nat_tests}
 use Rattle.pattern_sets.specs.Images.{IsImage, IsImageBelow, IsImageBut, Joined}
 

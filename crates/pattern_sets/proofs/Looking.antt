@@ -1,6 +1,6 @@
 -- Lookaround at one position, by whether its body leads anywhere.
-use Rattle.std.proofs.Common.{◌≡◌, ◌≤◌, ◌&&◌, ◌∙◌, ℕ, Bool, true, false, refl, subst, sym, arith, nat_le, true≢false, List, length}
-use Rattle.pattern_trees.specs.Patterns.{Look, Matches, Pattern}
+use Rattle.std.proofs.Common.{◌≡◌, ◌&&◌, ◌∙◌, ℕ, Bool, true, false, refl, subst, sym, nat_le, true≢false, List, length}
+use Rattle.pattern_trees.specs.Patterns.{Look, Pattern}
 use Rattle.pattern_sets.specs.Images.{IsImage, IsOne, Joined, Reaches, leads}
 use Rattle.pattern_sets.proofs.Walking.{Sees, and_both, and_left, and_right, kept_all, kept_none, le_of, look_either_way, of_le}
 

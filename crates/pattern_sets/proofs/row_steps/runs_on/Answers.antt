@@ -1,4 +1,4 @@
-use Rattle.std.proofs.Common.{ℕ, ◌≡◌, ◌<◌, ◌≤◌, ◌+◌, ◌*◌, ◌/◌, ◌||◌, ◌&&◌, ◌∙◌, arith, length, nat_le, sym}
+use Rattle.std.proofs.Common.{ℕ, ◌≡◌, ◌+◌, ◌*◌, ◌||◌, ◌&&◌, ◌∙◌, arith, nat_le, sym}
 use Rattle.pattern_rows.specs.Rows.{has, width}
 use Rattle.pattern_sets.specs.Images.{RunsFor}
 use Rattle.pattern_sets.proofs.Leading.{IsNext, below_begins, below_ends}

@@ -1,4 +1,4 @@
-use Rattle.std.proofs.Common.{ℕ, ◌≡◌, ◌+◌, length, subst}
+use Rattle.std.proofs.Common.{ℕ, subst}
 use Rattle.pattern_rows.specs.Rows.{has}
 use Rattle.pattern_sets.specs.Images.{IsImage, RunsFor}
 use Rattle.pattern_sets.proofs.Running.{times_image}

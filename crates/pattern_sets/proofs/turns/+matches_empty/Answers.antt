@@ -1,4 +1,4 @@
-use Rattle.std.proofs.Common.{ℕ, ◌≡◌, ◌-◌, subst}
+use Rattle.std.proofs.Common.{◌≡◌, ◌-◌, subst}
 use Rattle.std.specs.Prelude.{option_map}
 use Rattle.pattern_sets.specs.Images.{MatchesEmpty}
 use Rattle.pattern_trees.specs.declared.tree.Tree.{Tree}

@@ -1,4 +1,4 @@
-use Rattle.std.proofs.Common.{ℕ, ◌≡◌, ◌<◌, ◌≤◌, ◌+◌, arith}
+use Rattle.std.proofs.Common.{arith}
 use Rattle.pattern_sets.specs.Images.{RunsFor, in_word}
 use Rattle.pattern_sets.proofs.Leading.{IsNext, below_begins, below_ends}
 use Rattle.pattern_sets.proofs.Running.{GoesOn, below_run, run_from, run_within, scan_begins, scan_on}

@@ -1,4 +1,4 @@
-use Rattle.std.proofs.Common.{ℕ, ◌+◌, ◌≤◌, ◌<◌, length, not, true, refl, ap, arith}
+use Rattle.std.proofs.Common.{ℕ, ◌+◌, length, not, true, refl, ap, arith}
 use Rattle.pattern_trees.specs.Patterns.{One}
 use Rattle.pattern_sets.specs.Images.{in_word, leads}
 use Rattle.pattern_sets.proofs.Leading.{but_begins, but_ends, but_put, but_skip, left_part, left_there, left_was}

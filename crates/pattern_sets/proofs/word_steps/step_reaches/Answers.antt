@@ -1,4 +1,4 @@
-use Rattle.std.proofs.Common.{ℕ, ◌≡◌, ◌<◌, ◌≤◌, ◌+◌, inl, inr, refl, subst, arith}
+use Rattle.std.proofs.Common.{ℕ, ◌+◌, inl, inr, refl, subst, arith}
 use Rattle.pattern_sets.specs.Images.{IsTaken, in_word}
 use Rattle.pattern_sets.proofs.Leading.{IsNext, passed}
 use Rattle.pattern_sets.proofs.Reaching.{done_by_none}

@@ -1,4 +1,4 @@
-use Rattle.std.proofs.Common.{◌≡◌, ◌+◌, ℕ, length, subst}
+use Rattle.std.proofs.Common.{ℕ, subst}
 use Rattle.pattern_sets.specs.Images.{IsImage, RunsFor, in_word}
 use Rattle.pattern_sets.proofs.Running.{times_image}
 use Rattle.pattern_sets.proofs.word_steps.times_on.Goals as goal
