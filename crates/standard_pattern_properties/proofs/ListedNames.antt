@@ -1,6 +1,8 @@
 -- Names in order: which ones they are, and one more after the others.
-use Rattle.std.proofs.Common.{◌≡◌, ◌∙◌, ◌++◌, ◌||◌, ◌∷◌, [], Greater, Less, List, String, ap, append_assoc, map, refl, string_bytes, subst, sym}
-use Rattle.std.specs.Prelude.{bytes_eq}
+use Rattle.std.proofs.Common.{◌≡◌, ◌∙◌, ◌+◌, ◌++◌, ◌||◌, ◌∷◌, [], Bool, Greater, Less, List, String, ap, append_assoc, cond, drop, false, map, refl, string_bytes, subst, suc, sym, true, zero, ℕ}
+use Rattle.std.proofs.Math.Bool.{or-true}
+use Rattle.std.proofs.lemmas.Slice.Eq.{bytes_eq-Decides}
+use Rattle.std.specs.Prelude.{IfSome, None, Option, Some, bytes_eq}
 use Rattle.std.specs.declared.alloc.Global.{Global}
 use Rattle.std.specs.BTreeMap.{is_at}
 use Rattle.std.specs.BTreeSet.{insert_key}
@@ -8,7 +10,7 @@ use Rattle.std.specs.Cmp.Lexicographic.{slice_cmp}
 use Rattle.std.specs.List.{AllByRecursion, AllZip, list_any}
 use Rattle.std.specs.List.Sorted.{IsStrictlySortedBy}
 use Rattle.std.specs.Map.{keys_of}
-use Rattle.std.specs.Ordering.{match_ordering, nat_cmp, ordering_reverse}
+use Rattle.std.specs.Ordering.{is_lt, match_ordering, nat_cmp, ordering_reverse}
 use Rattle.std.specs.String.{string_cmp, string_cmp_total}
 use Rattle.std.proofs.lemmas.Map.Text.{is_eq-slice_cmp}
 use Rattle.serde_json.specs.View.{members_view}
@@ -16,6 +18,7 @@ use Rattle.serde_json.proofs.Views.{Entry}
 use Rattle.theory_definitions.specs.Instance.{Text}
 use Rattle.keyword_authoring.specs.Texts.{is_among}
 use Rattle.keyword_makers.specs.Members.{names_of}
+use Rattle.schema_traits.specs.Ascending.{place_from}
 
 abbrev Strings : Type 0
 Strings = List (String Global)
@@ -73,3 +76,45 @@ cloned_alike [] [] h = refl
 cloned_alike [] (y ∷ ys) h = absurd h
 cloned_alike (x ∷ xs) [] h = absurd h
 cloned_alike (x ∷ xs) (y ∷ ys) h = ap (λ k. k ∷ map string_bytes ys) h.0 ∙ ap (λ ks. string_bytes x ∷ ks) (cloned_alike xs ys h.1)
+
+abbrev pub AreAlike : Option (List Text) → Option (List Text) → Type 0
+AreAlike None None = Unit {0}
+AreAlike None (Some copy) = ⊥
+AreAlike (Some names) None = ⊥
+AreAlike (Some names) (Some copy) = copy ≡ names
+
+-- What holds of names that may be absent holds of their clone.
+pub alike_if_some : (P : List Text → Type 0) (names copy : Option (List Text)) → AreAlike names copy → IfSome names P → IfSome copy P
+alike_if_some P None None h holds = tt
+alike_if_some P None (Some ys) h holds = absurd h
+alike_if_some P (Some xs) None h holds = absurd h
+alike_if_some P (Some xs) (Some ys) h holds = subst P (sym h) holds
+
+-- ---- names beside others
+
+module _ (name l : Text) (names : List Text) (i p : ℕ) (later : place_from name (i + 1) names ≡ (p, true) → is_among names name ≡ true) where
+  among_here : (same less : Bool) → bytes_eq l name ≡ same → cond same (i, true) (cond less (i, false) (place_from name (i + 1) names)) ≡ (p, true) → is_among (l ∷ names) name ≡ true
+  among_here true less is h = ap (λ b. b || is_among names name) ((bytes_eq-Decides name l).1 (sym ((bytes_eq-Decides l name).0 is)))
+  among_here false true is h = let bad : false ≡ true = ap (λ r. r.1) h in cc
+  among_here false false is h = ap (λ b. bytes_eq name l || b) (later h) ∙ or-true (bytes_eq name l)
+
+-- a name that is found is among the names
+among_found : (name : Text) (i p : ℕ) (names : List Text) → place_from name i names ≡ (p, true) → is_among names name ≡ true
+among_found name i p [] h = let bad : false ≡ true = ap (λ r. r.1) h in cc
+among_found name i p (l ∷ names) h = among_here name l names i p (among_found name (i + 1) p names) (bytes_eq l name) (is_lt (slice_cmp nat_cmp name l)) refl h
+
+-- a name among the later names is among the names
+among_dropped : (name : Text) (i : ℕ) (names : List Text) → is_among (drop i names) name ≡ true → is_among names name ≡ true
+among_dropped name zero names h = h
+among_dropped name (suc i) [] h = h
+among_dropped name (suc i) (l ∷ names) h = ap (λ b. bytes_eq name l || b) (among_dropped name i names h) ∙ or-true (bytes_eq name l)
+
+-- a name that is found from an index on is among the names
+pub among_from : (name : Text) (i p : ℕ) (names : List Text) → place_from name i (drop i names) ≡ (p, true) → is_among names name ≡ true
+among_from name i p names h = among_dropped name i names (among_found name i p (drop i names) h)
+
+-- ---- the names of an object's members
+
+pub names_are : (es : List Entry) → map string_bytes (keys_of es) ≡ names_of (members_view es)
+names_are [] = refl
+names_are (e ∷ es) = ap (λ names. string_bytes e.0 ∷ names) (names_are es)

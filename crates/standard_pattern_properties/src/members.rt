@@ -34,8 +34,11 @@ fn unlisted_in(
     ensures names { Yields result (unlisted listed.now (names_in (fields members.now))) }
 {
     let mut left = NamesLeft::none(alloc);
+    let mut from = 0;
     for (name, _) in members {
-        if !listed.has(name.as_str()) {
+        let (next, is_listed) = listed.has_from(from, name.as_str());
+        from = next;
+        if !is_listed {
             left.push(alloc, name.as_str())?;
         }
     }
@@ -46,11 +49,13 @@ fn unlisted_in(
 fn lists_each_in(listed: &Listed, members: &Map<String, Value>) -> bool
     ensures lists { result ≡ is_nil (unlisted listed.now (names_in (fields members.now))) }
 {
+    let mut from = 0;
     for (name, _) in members {
-        let is_listed = listed.has(name.as_str());
+        let (next, is_listed) = listed.has_from(from, name.as_str());
         if !is_listed {
             return false;
         }
+        from = next;
     }
     true
 }
