@@ -219,6 +219,11 @@ def limits(size):
     return Case(schema, [{"v": k} for k in range(size)], [])
 
 
+def multiples(size):
+    """So many prices by a cent."""
+    return Case({"items": {"multipleOf": 0.01}}, [(k * 37 % 10000 + 1) / 100 for k in range(size)], [])
+
+
 def additional(size):
     """So many records of the six names that are allowed."""
     names = ("id", "name", "street", "town", "code", "note")
@@ -499,6 +504,7 @@ STANDARD_CASES = {
     "unique-numbers": (unique_numbers, (1000, 2000)),
     "unique-texts": (unique_texts, (1000, 2000)),
     "limits": (limits, (1000, 2000)),
+    "multiples": (multiples, (1000, 2000)),
     "additional": (additional, (1000, 2000)),
     "patterns": (patterns, (1000, 2000)),
 }
