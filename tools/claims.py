@@ -27,6 +27,8 @@ from pathlib import Path
 ROOT = Path(__file__).resolve().parent.parent
 
 # of what docs/CLAIMS.md speaks: each public function and each trait of these crates, or these items of a crate
+# the records that the clauses of builds and of the free calls cite, the calls' last
+RECORDS = ("schema_validator/specs/BuildResults.antt", "schema_engine/specs/CallResults.antt")
 SCOPE = (
     "schema_engine",
     "schema_validator",
@@ -402,8 +404,56 @@ def wrong_contracts():
     return wrong
 
 
+def members_of(file):
+    """The members of each record of a file of specs."""
+    found = {}
+    for line in (ROOT / "crates" / file).read_text(encoding="utf-8").splitlines():
+        record = re.match(r" *pub record (\w+)", line)
+        member = re.match(r" +pub (\w+) :", line)
+        if record:
+            members = found.setdefault(record[1], set())
+        elif member and found:
+            members.add(member[1])
+    return found
+
+
+def told_members(text, each):
+    """What docs/CLAIMS.md says of records: triples of a line, a record and a member. Under `Record` the first cell names records and the
+    second members; under `Member` it is the other way round, and a second cell that begins with `all` stands for all records of calls."""
+    kind = ""
+    for number, line in enumerate(text.splitlines(), 1):
+        cells = [cell.strip() for cell in line.strip().strip("|").split("|")]
+        if not line.startswith("|"):
+            kind = ""
+        elif not kind:
+            kind = cells[0]
+        elif kind in ("Record", "Member"):
+            first, second = (re.findall(r"`(\w+)`", cell) for cell in cells[:2])
+            records, members = (first, second) if kind == "Record" else (second or each, first)
+            yield from ((number, record, member) for record in records for member in members)
+
+
+def wrong_members(text):
+    """How many members of the records that clauses cite docs/CLAIMS.md does not name, or names without need."""
+    calls = members_of(RECORDS[-1])
+    wanted = {(record, member) for file in RECORDS for record, members in members_of(file).items() for member in members}
+    each = [record for record, members in calls.items() if "answer" in members]
+    told, wrong = set(), 0
+    for number, record, member in told_members(text, each):
+        told.add((record, member))
+        if (record, member) not in wanted:
+            print(f"docs/CLAIMS.md, line {number}: `{record}` has no member `{member}`")
+            wrong += 1
+    for record, member in sorted(wanted - told):
+        if record in {named for named, _ in told}:
+            print(f"docs/CLAIMS.md says nothing of the member `{member}` of `{record}`")
+            wrong += 1
+    return wrong
+
+
 def check():
     wanted, told, wrong = wanted_claims(), {}, wrong_contracts()
+    wrong += wrong_members((ROOT / "docs" / "CLAIMS.md").read_text(encoding="utf-8"))
     for number, call, clause in told_claims((ROOT / "docs" / "CLAIMS.md").read_text(encoding="utf-8")):
         if call not in wanted:
             print(f"docs/CLAIMS.md, line {number}: there is no public call `{call}`")
