@@ -2,37 +2,13 @@
 ghost use Rattle.std.specs.Prelude.{◌≡◌};
 ghost use Rattle.serde_json.specs.View.{number_view};
 ghost use Rattle.json_decimals.specs.Amounts.{IsAmountOf};
-ghost use Rattle.json_decimals.specs.Kinds.{num_of, IsProper};
 ghost use Rattle.json_decimals.specs.Decimals.{size_of};
 ghost use Rattle.json_decimals.specs.Multiples.{is_multiple_of};
 
 use crate::amounts::{Amount, reduced};
 use crate::decimals::written_amount;
+use json_values::{Kind, held_as};
 use serde_json::Number;
-
-/// How a number is represented.
-#[derive(Clone, Copy)]
-enum Kind {
-    Natural(u64),
-    Negative(i64),
-    Fraction(f64),
-}
-
-fn held_as(number: &Number) -> Kind
-    ensures view { num_of result ≡ number_view number.now }
-    ensures proper { IsProper result }
-{
-    if let Some(n) = number.as_u64() {
-        return Kind::Natural(n);
-    }
-    if let Some(n) = number.as_i64() {
-        return Kind::Negative(n);
-    }
-    match number.as_f64() {
-        Some(x) => Kind::Fraction(x),
-        None => Kind::Natural(0),
-    }
-}
 
 /// Returns the size of the number that was written.
 fn amount_of(number: &Number) -> Amount

@@ -10,7 +10,7 @@ use Rattle.std.proofs.lemmas.Nat.{mul-mod, pow-add, pow_pos}
 use lib.Ieee.Positive.{den, den_pos, num}
 use Rattle.json_values.specs.Numbers.{value_of_integer}
 use Rattle.json_values.specs.Sizes.{one, units, IsReduced, IsSizeOf}
-use Rattle.json_values.specs.declared.multiples.Size.{Size}
+use Rattle.json_values.specs.declared.wholes.Size.{Size}
 
 -- ---- divisibility, by the test of the remainder
 
@@ -120,13 +120,6 @@ larger_power x y s t h k some less =
     let d = (divides (units s) (units t)).0 (sym (in_units x y s t h k) ∙ passed) in
     let both = down_to_digits s.digits s.power t.digits t.power (odd_where_some s.digits h.1 some) k.1 d in
     omega (arith, both.0))
-
-pub no_divisor : (x y : Float) (s t : Size) → IsSizeOf x s → IsSizeOf y t → s.digits ≢ 0 → t.digits ≡ 0 → false ≡ multiple x y
-no_divisor x y s t h k some none =
-    test_fails _ (λ passed.
-    let d = (divides (units s) (units t)).0 (sym (in_units x y s t h k) ∙ passed) in
-    let both = down_to_digits s.digits s.power t.digits t.power (odd_where_some s.digits h.1 some) k.1 d in
-    some (eq-zero_of_zero-dvd (subst (λ n. n ∣ s.digits) none both.1)))
 
 -- ---- integers
 

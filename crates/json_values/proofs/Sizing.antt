@@ -1,5 +1,5 @@
 -- How a size is found.
-use Rattle.std.proofs.Common.{◌≡◌, ◌==◌, Bool, true, false, cond, leb, ℤ, pos, negsuc, unsigned_abs, ℕ, zero, suc, ◌+◌, ◌-◌, ◌*◌, ◌/◌, ◌%◌, ◌^◌, ◌<◌, ◌≤◌, IsTrue, T, not, refl, sym, ap, subst, ◌∙◌, arith, true≢false, to_bits}
+use Rattle.std.proofs.Common.{◌≡◌, ◌==◌, Bool, true, false, cond, leb, ℤ, ℕ, zero, suc, ◌+◌, ◌-◌, ◌*◌, ◌/◌, ◌%◌, ◌^◌, ◌<◌, ◌≤◌, IsTrue, T, not, refl, sym, ap, subst, ◌∙◌, arith, true≢false, to_bits}
 use Rattle.std.specs.Float.{Float, nan, inf, fin, binary64, float_is_finite}
 use Rattle.std.specs.Float.Ieee
 use Rattle.std.proofs.Math.Nat.{pow-succ', div-div-eq-div-mul, mul_left_comm, mul_assoc, mul_right_comm}
@@ -9,9 +9,7 @@ use lib.Count.{count_trailing_zeros, under}
 use lib.Ieee.{down, odd, of_bits, of_fields, up}
 use lib.Ieee.Bits.{of_bits-to_bits}
 use lib.Ieee.Exact.{HasValue, odd_sign}
-use Rattle.json_values.specs.Numbers.{value_of_integer}
-use Rattle.json_values.specs.Sizes.{one, units, IsReduced, IsSizeOf}
-use Rattle.json_values.specs.declared.multiples.Size.{Size}
+use Rattle.json_values.specs.Sizes.{one}
 
 -- the zeros at a number's end are divided out and put back
 trailing_shift : (d n : ℕ) → n / 2 ^ count_trailing_zeros d n * 2 ^ count_trailing_zeros d n ≡ n
@@ -91,12 +89,3 @@ normal_size x f h large =
     let digits : to_bits binary64 x % 2 ^ 52 ≡ size_bits x % 2 ^ 52 = omega arith in
     in_units x f h ∙ ap (λ n. units_of_fields n (to_bits binary64 x % 2 ^ 52) * den x) field
     ∙ ap (λ n. (2 ^ 52 + n) * 2 ^ (size_bits x / 2 ^ 52 - 1) * den x) digits
-
--- the size of an integer
-pub natural_size : (n : ℕ) (s : Size) → units s ≡ n * 2 ^ 1074 → IsReduced s.digits → (b : Bool) → IsSizeOf (fin b n (pos 0)) s
-unfolding one
-natural_size n s same reduced b = (omega arith, reduced)
-
-pub integer_size : (z : ℤ) (s : Size) → units s ≡ unsigned_abs z * 2 ^ 1074 → IsReduced s.digits → IsSizeOf (value_of_integer z) s
-integer_size (pos n) s same reduced = natural_size n s same reduced false
-integer_size (negsuc n) s same reduced = natural_size (suc n) s same reduced true

@@ -1,13 +1,11 @@
--- JSON numbers as exact mathematical numbers: their order, which of them are integers, and which
--- are multiples of others. (JSON Schema Validation 2020-12, 6.1.1 and 6.2.1 to 6.2.5)
-use Rattle.std.specs.Prelude.{Bool, IsTrue, None, Option, Some, false, int_lt, suc, true, ℕ, ℤ, negsuc, pos, ◌%◌, ◌*◌, ◌==◌, ◌&&◌, ◌||◌, if◌then◌else◌}
+-- JSON numbers as exact mathematical numbers: their order, and which of them are integers. (JSON
+-- Schema Validation 2020-12, 6.1.1 and 6.2.2 to 6.2.5)
+use Rattle.std.specs.Prelude.{Bool, IsTrue, None, Option, Some, false, int_lt, suc, true, ℕ, ℤ, negsuc, pos, ◌%◌, ◌==◌, ◌&&◌, if◌then◌else◌}
 use Rattle.std.specs.Float.{Float, fin, float_is_finite, float_to_unsigned}
 use Rattle.std.specs.Int.{w64}
 use Rattle.std.specs.Ordering.{is_eq, is_le, is_lt, nan_last_cmp}
 use Rattle.std.specs.declared.cmp.Ordering.{Ordering}
-use lib.Ieee.{binary64, div}
 use lib.Ieee.Positive.{den, num}
-use Rattle.serde_json.specs.Find.{is_float, to_float}
 use Rattle.serde_json.specs.Data.{Num, float, negative, unsigned}
 use Rattle.json_values.specs.declared.numbers.Kind.{Kind}
 use Rattle.json_values.specs.declared.numbers.Kind.TheVariants as kinds
@@ -49,23 +47,6 @@ abbrev pub natural_of : Num → Option ℕ
 natural_of (unsigned n) = Some n
 natural_of (negative z) = None
 natural_of (float x) = if is_whole (float x) && at_most (unsigned 0) (float x) then Some (float_to_unsigned w64 x) else None
-
--- x divided by a d above 0 is an integer: the fraction (num x * den d) / (den x * num d) is an
--- integer
-abbrev pub is_multiple_of : Num → Num → Bool
-is_multiple_of x d = (num (value_of x) * den (value_of d)) % (num (value_of d) * den (value_of x)) == 0
-
--- If one of the two is a fraction, the quotient is rounded to a float before it is tested, as
--- programs do: 0.0075 counts as a multiple of 0.0001, although the float nearest to it is not one
--- of the other float. An infinite quotient is not tested.
-abbrev pub rounded_quotient : Num → Num → Float
-rounded_quotient x d = div binary64 (to_float x) (to_float d)
-
-abbrev pub is_rounded_multiple_of : Num → Num → Bool
-is_rounded_multiple_of x d =
-    if (is_float x || is_float d) && float_is_finite (rounded_quotient x d)
-    then num (rounded_quotient x d) % den (rounded_quotient x d) == 0
-    else is_multiple_of x d
 
 -- ---- the code's representation of a number
 

@@ -1,10 +1,9 @@
--- The size of a number, as the code represents it: odd digits times a power of two. A number is a
--- multiple of another if its digits are a multiple of the other's and its power is no smaller.
--- (JSON Schema Validation 2020-12, 6.2.1)
+-- The size of a number, as the code represents it: odd digits times a power of two. The number is
+-- an integer if its power is that of 1 at least. (JSON Schema Validation 2020-12, 6.1.1)
 use Rattle.std.specs.Prelude.{◌⊎◌, ℕ, ◌≡◌, ◌%◌, ◌*◌, ◌^◌}
 use Rattle.std.specs.Float.{Float}
 use lib.Ieee.Positive.{den, num}
-use Rattle.json_values.specs.declared.multiples.Size.{Size}
+use Rattle.json_values.specs.declared.wholes.Size.{Size}
 
 -- the number 1 in units of 2 ^ -1074, the smallest float
 unfoldable pub one : ℕ

@@ -1,6 +1,6 @@
 //! Numbers and equality of JSON values, as JSON Schema defines them.
 //!
-//! Numbers are compared and divided without rounding, 1.0 is an integer, 1 equals 1.0, and the
+//! Numbers are compared without rounding, 1.0 is an integer, 1 equals 1.0, and the
 //! members of an object have no order.
 //!
 //! A `Number` of `serde_json` is an integer of 64 bits or a float, and each function here takes it
@@ -11,8 +11,8 @@
 mod distinct;
 mod equality;
 mod held;
-mod multiples;
 mod numbers;
+mod wholes;
 
 use std::alloc::AllocError;
 
@@ -22,7 +22,5 @@ pub type OutOfMemory = AllocError;
 pub use distinct::are_all_distinct;
 pub use equality::{are_all_distinct_by_pairs, is_among, is_equal};
 pub use held::HeldValue;
-pub use multiples::{
-    is_integer_valued, is_multiple_of, is_rounded_multiple_of, is_whole, natural_of,
-};
-pub use numbers::{compare, is_at_most, is_less, is_same_number};
+pub use numbers::{Kind, compare, held_as, is_at_most, is_less, is_same_number};
+pub use wholes::{is_integer_valued, is_whole, natural_of};

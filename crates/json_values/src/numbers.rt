@@ -17,13 +17,17 @@ const EXACT: u64 = 9007199254740992;
 
 /// How a number is represented.
 #[derive(Clone, Copy)]
-pub(crate) enum Kind {
+pub enum Kind {
+    /// An integer that is not negative.
     Natural(u64),
+    /// An integer below 0.
     Negative(i64),
+    /// A finite float.
     Fraction(f64),
 }
 
-pub(crate) fn held_as(number: &Number) -> Kind
+/// Returns the number as it is represented.
+pub fn held_as(number: &Number) -> Kind
     ensures view { num_of result ≡ number_view number.now }
     ensures proper { IsProper result }
 {

@@ -1,7 +1,7 @@
 //! Numbers and equality of JSON values, at their edges.
+use json_decimals::is_multiple_of;
 use json_values::{
     HeldValue, are_all_distinct, are_all_distinct_by_pairs, compare, is_equal, is_integer_valued,
-    is_multiple_of, is_rounded_multiple_of,
 };
 use schema_reports::OutOfMemory;
 use serde_json::{Number, Value};
@@ -27,8 +27,7 @@ fn order_word(order: Ordering) -> &'static str {
 fn of_numbers(question: &str, left: &Number, right: &Number) -> &'static str {
     match question {
         "order" => order_word(compare(left, right)),
-        "multiple" => yes_or_no(is_multiple_of(left, right)),
-        _ => yes_or_no(is_rounded_multiple_of(left, right)),
+        _ => yes_or_no(is_multiple_of(left, right)),
     }
 }
 
@@ -75,9 +74,8 @@ pub(crate) fn tell_values(alloc: Global, row: &Value, log: &mut String) -> Resul
     }
 }
 
-// The answer, the question, and one value or two. `multiple` is exact, so a decimal is a multiple
-// only if its nearest float is one. `rounded` has the rows of the official test suite's
-// `multipleOf.json` and `float-overflow.json`.
+// The answer, the question, and one value or two. `multiple` has the rows of the official test
+// suite's `multipleOf.json` and `float-overflow.json` too.
 pub(crate) const VALUES: &str = r##"[
 ["greater", "order", 9007199254740993, 9007199254740992.0],
 ["less", "order", 9007199254740991, 9007199254740992.0],
@@ -126,18 +124,19 @@ pub(crate) const VALUES: &str = r##"[
 ["yes", "multiple", 1, 5e-324],
 ["no", "multiple", 5e-324, 1],
 ["no", "multiple", 3, 0],
-["no", "multiple", 19.99, 0.01],
-["no", "multiple", 0.0075, 0.0001],
-["yes", "rounded", 10, 2],
-["no", "rounded", 7, 2],
-["yes", "rounded", 0, 1.5],
-["yes", "rounded", 4.5, 1.5],
-["no", "rounded", 35, 1.5],
-["yes", "rounded", 0.0075, 0.0001],
-["no", "rounded", 0.00751, 0.0001],
-["no", "rounded", 1e308, 0.123456789],
-["yes", "rounded", 12391239123, 1e-8],
-["yes", "rounded", 1e308, 0.5],
+["yes", "multiple", 19.99, 0.01],
+["yes", "multiple", 0.0075, 0.0001],
+["yes", "multiple", 4.35, 0.01],
+["no", "multiple", 0.30000000000000004, 0.1],
+["no", "multiple", 1e18, 7],
+["no", "multiple", 5e-324, 2],
+["yes", "multiple", 1e300, 1e-300],
+["no", "multiple", 1e-300, 1e300],
+["yes", "multiple", 2.2250738585072014e-308, 2.2250738585072014e-308],
+["no", "multiple", 2.2250738585072014e-308, 2.2250738585072011e-308],
+["yes", "multiple", 123456789.012345, 0.000001],
+["no", "multiple", 0.00751, 0.0001],
+["yes", "multiple", 12391239123, 1e-8],
 ["yes", "equal", 1, 1.0],
 ["no", "equal", 1, true],
 ["no", "equal", 0, false],

@@ -2,7 +2,7 @@ use Rattle.std.proofs.Common.{◌∙◌, ◌*◌, ap, sym}
 use Rattle.std.specs.Bool.{passes}
 use lib.Ieee.Positive.{den}
 use Rattle.json_values.proofs.Sizing.{no_nan, normal_size, small_size}
-use Rattle.json_values.proofs.multiples.size_of_float.Goals as goal
+use Rattle.json_values.proofs.wholes.size_of_float.Goals as goal
 
 pub float_to_bits-bits : goal.float_to_bits-bits
 float_to_bits-bits c = no_nan c.args.x c.requires.finite

@@ -1,7 +1,7 @@
 use Rattle.std.proofs.Common.{◌≡◌, pos, subst, true}
 use Rattle.json_values.specs.Numbers.{is_whole}
 use Rattle.json_values.proofs.Dividing.{integer_is_whole}
-use Rattle.json_values.proofs.multiples.is_whole.Goals as goal
+use Rattle.json_values.proofs.wholes.is_whole.Goals as goal
 
 pub returns-in-Natural : goal.returns-in-Natural
 returns-in-Natural c = record { whole = subst (λ v. true ≡ is_whole v) c.in-Natural.ensures.view (integer_is_whole (pos c.in-Natural.field-0)) }

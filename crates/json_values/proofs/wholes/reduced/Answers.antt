@@ -1,7 +1,7 @@
 use Rattle.std.proofs.Common.{arith, inr, w64}
 use Rattle.std.proofs.lemmas.Nat.Bits.{bit_at-trailing_zeros}
 use Rattle.json_values.proofs.Sizing.{shifted_units}
-use Rattle.json_values.proofs.multiples.reduced.Goals as goal
+use Rattle.json_values.proofs.wholes.reduced.Goals as goal
 
 pub returns-clause-units : goal.returns-clause-units
 returns-clause-units c = shifted_units c.args.digits c.args.power

@@ -1,15 +1,12 @@
-//! Integers and multiples (JSON Schema Validation 2020-12, 6.1.1 and 6.2.1).
+//! Integers (JSON Schema Validation 2020-12, 6.1.1).
 //!
-//! A number is split into odd digits and a power of two.
-//!
-//! Two integers are divided exactly. A quotient with a float in it is rounded, so that 0.0075 is a
-//! multiple of 0.0001, as people expect, although this is not so of the floats nearest to them.
+//! A float is split into odd digits and a power of two.
 ghost use Rattle.std.specs.Prelude.{◌%◌, ◌==◌, ◌≡◌, ◌*◌, ◌^◌, ◌<◌, IsTrue, unwrap_or, option_map, false};
 ghost use Rattle.std.specs.Float.{float_is_finite};
 ghost use lib.Ieee.Positive.{den, num};
 ghost use Rattle.serde_json.specs.Find.{as_number};
 ghost use Rattle.serde_json.specs.View.{number_view, view};
-ghost use Rattle.json_values.specs.Numbers.{is_multiple_of, is_rounded_multiple_of, is_whole, natural_of, value_of};
+ghost use Rattle.json_values.specs.Numbers.{is_whole, natural_of};
 ghost use Rattle.json_values.specs.Sizes.{units, IsReduced, IsSizeOf};
 
 use crate::numbers::{Kind, held_as, is_at_most};
@@ -53,16 +50,6 @@ fn size_of_float(x: f64) -> Size
             0x10_0000_0000_0000 + bits % 0x10_0000_0000_0000,
             (bits / 0x10_0000_0000_0000 - 1) as u32,
         )
-    }
-}
-
-fn size_of(number: &Number) -> Size
-    ensures size { IsSizeOf (value_of (number_view number.now)) result }
-{
-    match held_as(number) {
-        Kind::Natural(n) => reduced(n, 1074),
-        Kind::Negative(n) => reduced(n.unsigned_abs(), 1074),
-        Kind::Fraction(x) => size_of_float(x),
     }
 }
 
@@ -115,43 +102,4 @@ pub fn is_integer_valued(value: &Value) -> bool
         Some(number) => is_whole(number),
         None => false,
     }
-}
-
-/// Returns whether the number is an exact multiple of the divisor.
-///
-/// 0.0075 is not a multiple of 0.0001, because the floats nearest to them are not. Only 0 is a
-/// multiple of 0, which is never the value of `multipleOf`.
-pub fn is_multiple_of(number: &Number, divisor: &Number) -> bool
-    ensures multiple { result ≡ is_multiple_of (number_view number.now) (number_view divisor.now) }
-{
-    let dividend = size_of(number);
-    let divisor = size_of(divisor);
-    if dividend.digits == 0 {
-        return true;
-    }
-    if divisor.digits == 0 {
-        return false;
-    }
-    if dividend.power < divisor.power {
-        return false;
-    }
-    dividend.digits % divisor.digits == 0
-}
-
-/// Returns whether the rounded quotient is an integer.
-///
-/// A quotient of floats is rounded to a float first, so 0.0075 is a multiple of 0.0001, as people
-/// expect of decimal fractions. If the quotient is infinite, `is_multiple_of` decides.
-pub fn is_rounded_multiple_of(number: &Number, divisor: &Number) -> bool
-    ensures multiple { result ≡ is_rounded_multiple_of (number_view number.now) (number_view divisor.now) }
-{
-    if number.is_f64() || divisor.is_f64() {
-        if let (Some(x), Some(d)) = (number.as_f64(), divisor.as_f64()) {
-            let quotient = x / d;
-            if quotient.is_finite() {
-                return is_whole_float(quotient);
-            }
-        }
-    }
-    is_multiple_of(number, divisor)
 }
