@@ -56,7 +56,8 @@ decimal_or_exact x (Some power) = decimal (digits_at x power) power
 abbrev pub is_small_integer : Float → Bool
 is_small_integer x = ltb (num x) (2 ^ 64 * den x) && (num x % den x == 0)
 
--- (no float above 0 is a decimal of 15 digits past 10 ^ 400 or 10 ^ -400)
+-- (a decimal of at most 15 digits that reads as a normal float has its last digit between 10 ^ -400
+-- and 10 ^ 400)
 abbrev pub written : Float → Fraction
 written x =
     if is_normal binary64 x && not (is_small_integer x)
