@@ -7,7 +7,7 @@ use Rattle.theory_definitions.specs.Instance.{Place, Subject, Text}
 use Rattle.theory_definitions.specs.Reports.{Outcome, Unit_, accepted}
 use Rattle.theory_definitions.specs.Matching.{Assumptions, Completion, Matcher, completion_of, matching}
 use Rattle.theory_definitions.specs.Keywords.{Below, Keywords, Marked, Mode, Question, a_child, a_reservation, down, here}
-use Rattle.theory_definitions.specs.Meaning.{Where, both, false_outcome, keyword_outcome, place_below, reference_outcome}
+use Rattle.theory_definitions.specs.Meaning.{Where, both, false_outcome, kept, keyword_outcome, place_below, reference_outcome}
 use Rattle.theory_definitions.specs.Units.{Entry, PartUnits, false_unit, keyword_units, no_unit, plan_unit, reference_units, true_unit}
 use Rattle.theory_definitions.specs.Runs.{Looked, Met, Run, keyword_met, no_run, plan_met}
 use Rattle.theory_definitions.specs.Cover.{Sense, mode_of}
@@ -141,7 +141,7 @@ module _ {K R : Type 0} (keywords : Keywords K R) (matcher : Matcher) (nodes : N
 
     -- The outcome of a node, given the outcomes of its edges.
     abbrev pub node_outcome : ℕ → Text → Place → (NodeEdge → Below → Outcome) → Outcome
-    node_outcome i path p go = elim (nodes.entries i) [ node_always ↦ accepted | node_never ↦ false_outcome keywords.texts (node_at i path p) (subject_of p) | node_these xs ↦ node_parts i path p go xs ]
+    node_outcome i path p go = elim (nodes.entries i) [ node_always ↦ accepted | node_never ↦ false_outcome keywords.texts (node_at i path p) (subject_of p) | node_these xs ↦ kept (node_parts i path p go xs) ]
 
     -- What a node says at a place while these nodes are in progress there: the outcome that every
     -- depth yields from some depth on.

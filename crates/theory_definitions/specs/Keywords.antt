@@ -1,10 +1,10 @@
 -- A keyword type defines which questions each keyword may ask, when the keyword holds, which faults
--- it finds, and how a run of it proceeds turn by turn. A child is named by the number of the
--- request by which the keyword's maker obtained it. (Core 2020-12, 7.1 and 10)
-use Rattle.std.specs.List.{list_all}
-use Rattle.std.specs.Prelude.{Bool, List, Option, ℕ, ◌&&◌}
+-- it finds, what it spans, and how a run of it proceeds turn by turn. A child is named by the number
+-- of the request by which the keyword's maker obtained it. (Core 2020-12, 7.1, 10 and 11)
+use Rattle.std.specs.List.{list_all, list_any}
+use Rattle.std.specs.Prelude.{Bool, List, None, Option, Some, [], false, true, ℕ, ◌&&◌, ◌++◌, ◌||◌, ◌∷◌}
 use Rattle.serde_json.specs.Data.{Data}
-use Rattle.theory_definitions.specs.Instance.{Place, Step, Subject, Text}
+use Rattle.theory_definitions.specs.Instance.{Place, Step, Subject, Text, same_step}
 use Rattle.theory_definitions.specs.Reports.{Described, Error, Outcome, Unit_}
 use Rattle.theory_definitions.specs.Matching.{Matching, Pair}
 
@@ -92,14 +92,69 @@ pub data Reply : Type 0 where
   unit_of_it : Unit_ → Reply
 
 -- A turn of a run: it asks a question, requests a match, sets a mark, removes the latest mark, asks
--- whether a text is an ECMA-262 pattern, or ends the run.
+-- whether a text is an ECMA-262 pattern, asks whether the other keywords of its schema span a member
+-- or an item, or ends the run.
 pub data Turn : Type 0 where
   ask : Question → Mode → Turn
   match_text : Pair → MatchPoint → Turn
   mark : Marked → Turn
   unmark : Turn
   ecma : Text → Turn
+  is_spanned : Step → Turn
   done : Turn
+
+-- What a keyword spans below its place: every member and item; one of them; one of them if a pair
+-- matches, or if a child accepts it; what a child spans at the keyword's own place; or what a child
+-- spans there, together with what the first of two others spans if that child accepts, and what the
+-- second spans if it does not.
+pub data Span : Type 0 where
+  every : Span
+  one : Step → Span
+  one_matched : Pair → MatchPoint → Step → Span
+  one_accepted : ℕ → Step → Span
+  of_child : ℕ → Span
+  of_choice : ℕ → Option ℕ → Option ℕ → Span
+
+-- The question to a child at the keyword's own place.
+abbrev pub child_here : ℕ → Question
+child_here i = record { child = i; below = here }
+
+-- The question to a child one step below.
+abbrev pub child_at : ℕ → Step → Question
+child_at i step = record { child = i; below = down step }
+
+-- The first of two children if the condition is true, and the second if it is false.
+abbrev pub chosen : Bool → Option ℕ → Option ℕ → Option ℕ
+chosen true first second = first
+chosen false first second = second
+
+-- What a child spans at the keyword's own place, which is nothing if there is no child.
+abbrev pub child_spans : Answers → Option ℕ → Step → Bool
+child_spans answers None step = false
+child_spans answers (Some i) step = (answers (child_here i)).spans step
+
+-- The question to a child at the keyword's own place, if there is a child.
+abbrev pub chosen_here : Option ℕ → List Question
+chosen_here None = []
+chosen_here (Some i) = child_here i ∷ []
+
+-- A span contains a step.
+abbrev pub spans_step : Matching → Answers → Step → Span → Bool
+spans_step matches answers step every = true
+spans_step matches answers step (one s) = same_step s step
+spans_step matches answers step (one_matched a point s) = same_step s step && matches.matches a.pattern a.subject
+spans_step matches answers step (one_accepted i s) = same_step s step && (answers (child_at i s)).verdict
+spans_step matches answers step (of_child i) = (answers (child_here i)).spans step
+spans_step matches answers step (of_choice i first second) = (answers (child_here i)).spans step || child_spans answers (chosen (answers (child_here i)).verdict first second) step
+
+-- The questions on whose outcomes a span depends.
+abbrev pub span_questions : Span → List Question
+span_questions every = []
+span_questions (one s) = []
+span_questions (one_matched a point s) = []
+span_questions (one_accepted i s) = child_at i s ∷ []
+span_questions (of_child i) = child_here i ∷ []
+span_questions (of_choice i first second) = child_here i ∷ (chosen_here first ++ chosen_here second)
 
 -- The answer at the end of a run, with the mode of the run.
 pub record Answer : Type 0 where
@@ -116,6 +171,10 @@ pub record Keywords (K R : Type 0) : Type 0 where
   pub texts : Bool
   -- The questions that a keyword may ask of a subject.
   pub may_ask : K → Subject → List Question
+  -- What a keyword spans if it holds.
+  pub spans : K → Subject → List Span
+  -- Whether a keyword is told what the keywords of its schema that are not told span.
+  pub is_told : K → Bool
   -- Whether a keyword holds, given the matches and the verdicts of its questions.
   pub holds : K → Subject → Matching → (Question → Bool) → Bool
   -- The faults that a keyword finds, given the matches and the outcomes of its questions.
@@ -132,3 +191,7 @@ pub record Keywords (K R : Type 0) : Type 0 where
   pub step : K → Subject → R → Reply → Turn
   -- The answer that a state contains.
   pub answer : R → Answer
+
+-- A keyword spans the member or item at this step below its place.
+abbrev pub keyword_spans : {K R : Type 0} → Keywords K R → K → Subject → Matching → Answers → Step → Bool
+keyword_spans keywords m s matches answers step = list_any (spans_step matches answers step) (keywords.spans m s)

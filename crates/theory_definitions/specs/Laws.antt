@@ -5,7 +5,7 @@ use Rattle.theory_definitions.specs.Instance.{Place, Subject, Text, subject_from
 use Rattle.theory_definitions.specs.Pointer.{pointer_to}
 use Rattle.theory_definitions.specs.Reports.{Outcome, Unit_, report_of}
 use Rattle.theory_definitions.specs.Matching.{Matching}
-use Rattle.theory_definitions.specs.Keywords.{Answer, Answers, Below, Fault, Keywords, Marked, Mode, Question, Reply, Spot, Turn, a_child, all_of_it, ask, done, down, ecma, all_valid, first_of_it, for_all, for_first, for_units, for_verdict, here, mark, match_text, no_reply, own, passed, truth, unit_of_it, unmark}
+use Rattle.theory_definitions.specs.Keywords.{Answer, Answers, Below, Fault, Keywords, Marked, Mode, Question, Reply, Spot, Turn, a_child, all_of_it, ask, done, down, ecma, all_valid, first_of_it, for_all, for_first, for_units, for_verdict, here, is_spanned, mark, match_text, no_reply, own, passed, span_questions, truth, unit_of_it, unmark}
 use Rattle.theory_definitions.specs.Runs.{first_error, with_mark, without_last}
 
 -- The verdict is yes if and only if there is no error.
@@ -76,6 +76,7 @@ module _ {K R : Type 0} (keywords : Keywords K R) (m : K) (s : Subject) where
           | mark i ↦ ended n (with_mark same i marks) r' (truth (list_any (same i) marks))
           | unmark ↦ ended n (without_last marks) r' no_reply
           | ecma text ↦ ended n marks r' (truth (matches.is_ecma text))
+          | is_spanned step ↦ ended n marks r' (truth (matches.spanned step))
           | done ↦ Some r'
         ]
 
@@ -124,6 +125,8 @@ pub record KeepsLaws {K R : Type 0} (keywords : Keywords K R) (m : K) (absorbed 
       → keywords.faults m s matches a ≡ keywords.faults m s matches b
   pub units_read : (s : Subject) (matches : Matching) (a b : Question → Unit_) → All (λ q. a q ≡ b q) (keywords.may_ask m s)
       → keywords.units m s matches a ≡ keywords.units m s matches b
+  -- What a keyword spans depends only on the answers to questions that it may ask.
+  pub spans_read : (s : Subject) → All (λ p. All (Contains (keywords.may_ask m s)) (span_questions p)) (keywords.spans m s)
   pub stands : (s : Subject) (matches : Matching) (a : Answers) → All (StandsInside s absorbed) (keywords.faults m s matches a)
   pub passes : (s : Subject) (matches : Matching) (a : Answers) → All (PassesUnchanged a (keywords.may_ask m s)) (keywords.faults m s matches a)
 

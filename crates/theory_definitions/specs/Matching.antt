@@ -4,7 +4,8 @@
 -- "for every completion" is an ordinary quantifier. (Validation 2020-12, 4.3, regular expressions)
 use Rattle.std.specs.List.{list_any}
 use Rattle.std.specs.Prelude.{Bool, List, None, Option, Some, [], bytes_eq, false, filter_map, find, if◌then◌else◌, not, option_map, true, ◌&&◌, ◌≡◌}
-use Rattle.theory_definitions.specs.Instance.{Text}
+use Rattle.theory_definitions.specs.Instance.{Step, Text}
+use Rattle.theory_definitions.specs.Reports.{spans_nothing}
 
 -- Why a match is unfinished: it reached a limit, which the text describes, or the engine failed.
 pub data Reason : Type 0 where
@@ -43,20 +44,21 @@ completed c a = if list_any (same_pair a) c.except then not c.otherwise else c.o
 abbrev pub all_match : Completion
 all_match = record { otherwise = true; except = [] }
 
--- What a keyword may ask about texts: whether a text matches a pattern, and whether a text is an
--- ECMA-262 pattern.
+-- What a keyword may ask besides its questions: whether a text matches a pattern, whether a text is
+-- an ECMA-262 pattern, and whether the other keywords of its schema span a member or an item.
 pub record Matching : Type 0 where
   pub matches : Text → Text → Bool
   pub is_ecma : Text → Bool
+  pub spanned : Step → Bool
 
 -- The outcome of a match, which is `b` if the match is unfinished.
 abbrev pub settled : Bool → Match → Bool
 settled b (finished a) = a
 settled b (unfinished r) = b
 
--- The matches of a matcher under a completion.
+-- The matches of a matcher under a completion. No keyword is told what others span.
 abbrev pub matching : Matcher → Completion → Matching
-matching m c = record { matches = λ p s. settled (completed c (record { pattern = p; subject = s })) (m.is_match p s); is_ecma = m.is_ecma }
+matching m c = record { matches = λ p s. settled (completed c (record { pattern = p; subject = s })) (m.is_match p s); is_ecma = m.is_ecma; spanned = spans_nothing }
 
 -- The outcome that is assumed for an unfinished pair.
 pub record Assumed : Type 0 where

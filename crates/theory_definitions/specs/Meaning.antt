@@ -3,16 +3,16 @@
 -- for one that it absorbs has the absolute location of the absorbed keyword, since its paths name
 -- that keyword, and `evaluate` gives it a unit at the same location. (Core 2020-12, 4.3.2, 7.6 and
 -- 8.2.3)
-use Rattle.std.specs.Prelude.{Bool, List, None, Option, Some, [], codes, false, if◌then◌else◌, map, suc, true, unwrap_or, zero, ℕ, ◌&&◌, ◌++◌, ◌∷◌}
+use Rattle.std.specs.Prelude.{Bool, List, None, Option, Some, [], codes, false, if◌then◌else◌, map, suc, true, unwrap_or, zero, ℕ, ◌&&◌, ◌++◌, ◌||◌, ◌∷◌}
 use Rattle.json.specs.Print.{quoted}
 use Rattle.serde_json.specs.Data.{Data, null}
 use Rattle.serde_json.specs.Written.{compact_text}
 use Rattle.theory_definitions.specs.Instance.{Place, Subject, Text, a_name, a_value, subject_at}
 use Rattle.theory_definitions.specs.Pointer.{joined}
-use Rattle.theory_definitions.specs.Reports.{Error, Outcome, accepted}
+use Rattle.theory_definitions.specs.Reports.{Error, Outcome, accepted, spans_nothing}
 use Rattle.theory_definitions.specs.Matching.{Completion, Matching, matching}
 use Rattle.theory_definitions.specs.Making.{Request}
-use Rattle.theory_definitions.specs.Keywords.{Answers, Below, Fault, Keywords, Own, Question, down, here, own, passed}
+use Rattle.theory_definitions.specs.Keywords.{Answers, Below, Fault, Keywords, Own, Question, down, here, keyword_spans, own, passed}
 use Rattle.theory_definitions.specs.Parts.{Parts}
 use Rattle.theory_definitions.specs.Plan.{Edge, Form, Key, Part, Reference, absolute_of, always, child, height, keyword, never, plan, reference, reference_edge, these}
 
@@ -62,20 +62,26 @@ abbrev pub keyword_outcome : {K R : Type 0} → Keywords K R → Where → Text 
 keyword_outcome keywords x name m s matches answers = record {
   verdict = keywords.holds m s matches (λ q. (answers q).verdict);
   errors = map (fault_error x name) (keywords.faults m s matches answers);
+  spans = keyword_spans keywords m s matches answers;
 }
 
 -- The outcome of a reference: that of its target, with the absolute location of the reference added
 -- to errors that have none.
 abbrev pub reference_outcome : Where → Text → Outcome → Outcome
-reference_outcome x name o = record { verdict = o.verdict; errors = map (stamped (x.absolute (joined x.location name))) o.errors }
+reference_outcome x name o = record { verdict = o.verdict; errors = map (stamped (x.absolute (joined x.location name))) o.errors; spans = o.spans }
 
 -- The outcome of a `false` schema.
 abbrev pub false_outcome : Bool → Where → Subject → Outcome
-false_outcome texts x s = record { verdict = false; errors = false_error texts x s ∷ [] }
+false_outcome texts x s = record { verdict = false; errors = false_error texts x s ∷ []; spans = spans_nothing }
 
--- Both outcomes together: valid if both are valid, with the errors of both.
+-- Both outcomes together: valid if both are valid, with the errors of both, and spanning what either
+-- spans.
 abbrev pub both : Outcome → Outcome → Outcome
-both a b = record { verdict = a.verdict && b.verdict; errors = a.errors ++ b.errors }
+both a b = record { verdict = a.verdict && b.verdict; errors = a.errors ++ b.errors; spans = λ step. a.spans step || b.spans step }
+
+-- The outcome of a schema: a schema that rejects spans nothing.
+abbrev pub kept : Outcome → Outcome
+kept o = record o { spans = λ step. o.verdict && o.spans step }
 
 module _ {S K R : Type 0} (w : Parts S K R) (instance : Data) where
   -- The value or the name at a place, or `null` if there is none.
@@ -125,7 +131,7 @@ module _ {S K R : Type 0} (w : Parts S K R) (instance : Data) where
 
     -- The outcome of a schema at a place, given the answers of its children.
     abbrev pub outcome_of : Key S → Text → Place → (Edge S → Place → Outcome) → Outcome
-    outcome_of k path p ask = elim (plan w k) [ always ↦ accepted | never ↦ false_outcome w.keywords.texts (at k path p) (subject p) | these xs ↦ parts_outcome k path p ask xs ]
+    outcome_of k path p ask = elim (plan w k) [ always ↦ accepted | never ↦ false_outcome w.keywords.texts (at k path p) (subject p) | these xs ↦ kept (parts_outcome k path p ask xs) ]
 
     -- The verdict and the errors with references followed n deep. A reference that lies deeper
     -- counts as valid, without errors.

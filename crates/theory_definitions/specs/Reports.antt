@@ -1,9 +1,9 @@
 -- An error says where the instance and the schema disagree. A unit reports the result of evaluating
 -- one place of the schema at one place of the instance, with the units inside it. (Core 2020-12,
 -- 12.3 and 12.4)
-use Rattle.std.specs.Prelude.{Bool, List, Option, [], bytes_eq, if◌then◌else◌, true, ◌&&◌, ◌∷◌}
+use Rattle.std.specs.Prelude.{Bool, List, Option, [], bytes_eq, false, if◌then◌else◌, true, ◌&&◌, ◌∷◌}
 use Rattle.serde_json.specs.Data.{Data}
-use Rattle.theory_definitions.specs.Instance.{Place, Text}
+use Rattle.theory_definitions.specs.Instance.{Place, Step, Text}
 use Rattle.theory_definitions.specs.Pointer.{pointer_to}
 
 -- An error. It concerns the instance at its place.
@@ -75,11 +75,17 @@ abbrev pub units_of : List Unit_ → Units
 units_of [] = no_units
 units_of (u ∷ us) = a_unit u (units_of us)
 
--- A verdict and a list of errors.
+-- No member or item is spanned.
+abbrev pub spans_nothing : Step → Bool
+spans_nothing step = false
+
+-- A verdict, a list of errors, and which members and items below the place are spanned, that is,
+-- evaluated there by keywords at this place. (Core 2020-12, 11)
 pub record Outcome : Type 0 where
   pub verdict : Bool
   pub errors : List Error
+  pub spans : Step → Bool
 
 -- Valid, without errors.
 abbrev pub accepted : Outcome
-accepted = record { verdict = true; errors = [] }
+accepted = record { verdict = true; errors = []; spans = spans_nothing }

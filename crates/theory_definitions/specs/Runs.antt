@@ -7,7 +7,7 @@ use Rattle.theory_definitions.specs.Instance.{Place, Subject, Text}
 use Rattle.theory_definitions.specs.Pointer.{joined}
 use Rattle.theory_definitions.specs.Reports.{Error, Outcome, Unit_, accepted}
 use Rattle.theory_definitions.specs.Matching.{Assumptions, Matcher, Pair, completed, completion_of, finished, unfinished}
-use Rattle.theory_definitions.specs.Keywords.{Keywords, Marked, MatchPoint, Mode, Question, Reply, all_of_it, ask, done, ecma, first_of_it, for_all, for_first, for_units, for_verdict, mark, match_text, no_reply, truth, unit_of_it, unmark}
+use Rattle.theory_definitions.specs.Keywords.{Keywords, Marked, MatchPoint, Mode, Question, Reply, all_of_it, ask, done, ecma, first_of_it, for_all, for_first, for_units, for_verdict, is_spanned, mark, match_text, no_reply, truth, unit_of_it, unmark}
 use Rattle.theory_definitions.specs.Parts.{Parts}
 use Rattle.theory_definitions.specs.Plan.{Edge, Form, Key, Part, always, keyword, never, plan, reference, same_child, these}
 use Rattle.theory_definitions.specs.Meaning.{Where, asked, at, outcome_of, part_outcome, referred_to, subject, unfolded}
@@ -78,6 +78,7 @@ module _ {K R : Type 0} (keywords : Keywords K R) (matcher : Matcher) (as' : Ass
         | mark i ↦ turns n (with_mark same i marks) r' (truth (list_any (same i) marks))
         | unmark ↦ turns n (without_last marks) r' no_reply
         | ecma text ↦ turns n marks r' (truth (matcher.is_ecma text))
+        | is_spanned step ↦ turns n marks r' (truth false)
         | done ↦ []
       ]
 

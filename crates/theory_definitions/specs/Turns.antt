@@ -1,10 +1,10 @@
 -- The laws of a keyword type, stated for the start of a run and for one turn.
 use Rattle.std.specs.List.{list_any}
-use Rattle.std.specs.Prelude.{All, Bool, List, [], true, ℕ, ◌<◌, ◌↔◌, ◌≡◌, ◌⊎◌}
+use Rattle.std.specs.Prelude.{All, Bool, Contains, List, [], true, ℕ, ◌<◌, ◌↔◌, ◌≡◌, ◌⊎◌}
 use Rattle.theory_definitions.specs.Instance.{Subject, Text}
 use Rattle.theory_definitions.specs.Reports.{Unit_, report_of}
 use Rattle.theory_definitions.specs.Matching.{Matching}
-use Rattle.theory_definitions.specs.Keywords.{Answer, Answers, Keywords, Marked, Mode, Question, Reply, Turn, all_valid, ask, done, ecma, mark, match_text, no_reply, truth, unmark}
+use Rattle.theory_definitions.specs.Keywords.{Answer, Answers, Keywords, Marked, Mode, Question, Reply, Turn, all_valid, ask, done, ecma, is_spanned, mark, match_text, no_reply, span_questions, truth, unmark}
 use Rattle.theory_definitions.specs.Runs.{with_mark, without_last}
 use Rattle.theory_definitions.specs.Laws.{Agrees, AnsweredAlike, AsksRightly, IsPresent, IsRight, PassesUnchanged, StandsInside, answer_in, steps_below}
 
@@ -16,6 +16,7 @@ module _ {K R : Type 0} (keywords : Keywords K R) (m : K) (s : Subject) (matches
   reply_to marks (mark i) = truth (list_any (same i) marks)
   reply_to marks unmark = no_reply
   reply_to marks (ecma text) = truth (matches.is_ecma text)
+  reply_to marks (is_spanned step) = truth (matches.spanned step)
   reply_to marks done = no_reply
 
   -- The marks that the run has after the turn.
@@ -91,5 +92,7 @@ pub record FunctionLaws {K R : Type 0} (keywords : Keywords K R) (m : K) (absorb
       → keywords.faults m s matches a ≡ keywords.faults m s matches b
   pub units_read : (s : Subject) (matches : Matching) (a b : Question → Unit_) → All (λ q. a q ≡ b q) (keywords.may_ask m s)
       → keywords.units m s matches a ≡ keywords.units m s matches b
+  -- What a keyword spans depends only on the answers to questions that it may ask.
+  pub spans_read : (s : Subject) → All (λ p. All (Contains (keywords.may_ask m s)) (span_questions p)) (keywords.spans m s)
   pub stands : (s : Subject) (matches : Matching) (a : Answers) → All (StandsInside s absorbed) (keywords.faults m s matches a)
   pub passes : (s : Subject) (matches : Matching) (a : Answers) → All (PassesUnchanged a (keywords.may_ask m s)) (keywords.faults m s matches a)

@@ -9,7 +9,7 @@ use Rattle.theory_definitions.specs.Instance.{Text, Place, Subject}
 use Rattle.theory_definitions.specs.Reports.{Outcome, accepted}
 use Rattle.theory_definitions.specs.Matching.{Completion, Matcher, Matching, matching}
 use Rattle.theory_definitions.specs.Keywords.{Keywords, Below, here, down, Question}
-use Rattle.theory_definitions.specs.Meaning.{place_below, false_outcome}
+use Rattle.theory_definitions.specs.Meaning.{place_below, false_outcome, kept}
 use Rattle.theory_definitions.specs.Laws.{IsPresent, steps_below}
 use Rattle.theory_definitions.specs.Guarded.{NodeEdge, node_child, NodeForm, node_keyword, node_reference, NodePart, NodePlan, node_always, node_never, node_these, Nodes, form_edges, node_edges, progress_below, across, guarded_within, node_at, node_part, node_parts, node_outcome, yes_outcome}
 use Rattle.theory_meaning.specs.Fractions.{form_words, node_words}
@@ -43,7 +43,7 @@ module _ {K R : Type 0} (keywords : Keywords K R) (matcher : Matcher) (nodes : N
   node_verdict = go (nodes.entries i)
     where
       go : (o : NodePlan K)
-          → (let x : Outcome = elim o [ node_always ↦ accepted | node_never ↦ false_outcome keywords.texts (node_at keywords matcher nodes subject_of i path p) (subject_of p) | node_these xs ↦ node_parts keywords matcher nodes subject_of c i path p f xs ] in x.verdict)
+          → (let x : Outcome = elim o [ node_always ↦ accepted | node_never ↦ false_outcome keywords.texts (node_at keywords matcher nodes subject_of i path p) (subject_of p) | node_these xs ↦ kept (node_parts keywords matcher nodes subject_of c i path p f xs) ] in x.verdict)
           ≡ (elim o [ node_always ↦ true | node_never ↦ false | node_these xs ↦ list_all (λ x. form_holds keywords matcher nodes subject_of c p (λ e b. (f e b).verdict) x.form) xs ])
       go node_always = refl
       go node_never = refl

@@ -5,7 +5,7 @@ use Rattle.std.proofs.lemmas.List.{append-nil}
 use Rattle.theory_definitions.specs.Instance.{Place}
 use Rattle.theory_definitions.specs.Keywords.{Below, here, down}
 use Rattle.theory_definitions.specs.Meaning.{place_below}
-use Rattle.theory_definitions.specs.Reports.{Outcome}
+use Rattle.theory_definitions.specs.Reports.{Outcome, spans_nothing}
 use Rattle.theory_definitions.specs.Guarded.{NodeEdge}
 use Rattle.theory_meaning.specs.Numbered.{left, subject_in}
 use Rattle.theory_meaning.proofs.Reading.{Reads, reads_of}
@@ -26,7 +26,7 @@ below_begins p (down s) = (s ∷ [], refl)
 
 -- An outcome with a given verdict.
 verdict_alone : Bool → Outcome
-verdict_alone b = record { verdict = b; errors = [] }
+verdict_alone b = record { verdict = b; errors = []; spans = spans_nothing }
 
 module _ {K R : Type 0} (w : Solving K R) (solvable : IsSolvable w) where
   reads : Reads w.keywords

@@ -2,7 +2,7 @@
 -- agree with the replies so far.
 use Rattle.std.specs.Prelude.{Bool, List, None, [], false, true, ◌∷◌}
 use Rattle.theory_definitions.specs.Instance.{Place, Subject}
-use Rattle.theory_definitions.specs.Reports.{Error, Outcome, Unit_, accepted, no_units, unit}
+use Rattle.theory_definitions.specs.Reports.{Error, Outcome, Unit_, accepted, no_units, spans_nothing, unit}
 use Rattle.theory_definitions.specs.Matching.{Matching, matching}
 use Rattle.theory_definitions.specs.Keywords.{Answer, Answers, Below, Marked, Question, Reply, for_verdict}
 use Rattle.theory_definitions.specs.Laws.{IsRight}
@@ -20,7 +20,7 @@ some_error = record { place = []; schema_path = []; evaluation_path = []; absolu
 -- An outcome with a given verdict.
 abbrev pub outcome_with : Bool → Outcome
 outcome_with true = accepted
-outcome_with false = record { verdict = false; errors = some_error ∷ [] }
+outcome_with false = record { verdict = false; errors = some_error ∷ []; spans = spans_nothing }
 
 -- A unit with the verdict of an outcome.
 abbrev pub unit_with : Outcome → Unit_

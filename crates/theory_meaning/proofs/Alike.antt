@@ -8,7 +8,7 @@ use Rattle.theory_definitions.specs.Instance.{Text, Place, Subject}
 use Rattle.theory_definitions.specs.Reports.{Outcome, accepted}
 use Rattle.theory_definitions.specs.Keywords.{Keywords, Below, here}
 use Rattle.theory_definitions.specs.Matching.{Matcher, Completion, matching}
-use Rattle.theory_definitions.specs.Meaning.{place_below, false_outcome}
+use Rattle.theory_definitions.specs.Meaning.{place_below, false_outcome, kept}
 use Rattle.theory_definitions.specs.Guarded.{Children, NodeEdge, node_child, same_guard, same_node, same_edge, Nodes, NodePart, NodeForm, node_keyword, node_reference, NodePlan, node_always, node_never, node_these, node_at, node_asked, node_part, node_parts, node_outcome, across, guarded_within, progress_below, yes_outcome}
 use Rattle.theory_definitions.specs.Laws.{AnsweredAlike}
 use Rattle.theory_definitions.proofs.Products.{both_left, both_right, in_either}
@@ -68,8 +68,8 @@ module _ {K R : Type 0} (keywords : Keywords K R) (matcher : Matcher) (nodes : N
       node_verdict = go (nodes.entries i)
         where
           go : (o : NodePlan K)
-              → (let x : Outcome = elim o [ node_always ↦ accepted | node_never ↦ false_outcome keywords.texts (node_at keywords matcher nodes subject_of i path p) (subject_of p) | node_these xs ↦ node_parts keywords matcher nodes subject_of c i path p f xs ] in x.verdict)
-              ≡ (let x : Outcome = elim o [ node_always ↦ accepted | node_never ↦ false_outcome keywords.texts (node_at keywords matcher nodes subject_of i path' p) (subject_of p) | node_these xs ↦ node_parts keywords matcher nodes subject_of c i path' p g xs ] in x.verdict)
+              → (let x : Outcome = elim o [ node_always ↦ accepted | node_never ↦ false_outcome keywords.texts (node_at keywords matcher nodes subject_of i path p) (subject_of p) | node_these xs ↦ kept (node_parts keywords matcher nodes subject_of c i path p f xs) ] in x.verdict)
+              ≡ (let x : Outcome = elim o [ node_always ↦ accepted | node_never ↦ false_outcome keywords.texts (node_at keywords matcher nodes subject_of i path' p) (subject_of p) | node_these xs ↦ kept (node_parts keywords matcher nodes subject_of c i path' p g xs) ] in x.verdict)
           go node_always = refl
           go node_never = refl
           go (node_these xs) = parts_verdict xs

@@ -49,14 +49,14 @@ module _ (v : Sense) (call : Call) where
 
 -- The run of a member speaks for every completion that extends the member.
 abbrev pub Faithful : Sense → List Assumptions → Type 0
-Faithful v ms = (c : Completion) → All (λ m. Extends c m → v.says c ≡ v.says (completion_of m)) ms
+Faithful v ms = (c : Completion) → All (λ m. Extends c m → (v.says c).errors ≡ (v.says (completion_of m)).errors) ms
 
 pub shared_decides : (v : Sense) (call : Call) (ms : List Assumptions) → Cover v call [] ms → Faithful v ms → (e : Error) → Decides (in_each v ms e) (IsShared v e)
 shared_decides v call ms cover faithful e = (to, from)
   where
     to : in_each v ms e ≡ true → IsShared v e
     to all c = let (m, in_ms, ext) = covered v call c cover (λ a b is. absurd (cc is)) in
-        subst (λ o. list_any (same_error e) o.errors ≡ true) (sym (All-contains (λ x. Extends c x → v.says c ≡ v.says (completion_of x)) ms m (faithful c) in_ms ext)) (All-contains (λ x. list_any (same_error e) (v.says (completion_of x)).errors ≡ true) ms m (AllPass-from_list_all _ ms all) in_ms)
+        subst (λ es. list_any (same_error e) es ≡ true) (sym (All-contains (λ x. Extends c x → (v.says c).errors ≡ (v.says (completion_of x)).errors) ms m (faithful c) in_ms ext)) (All-contains (λ x. list_any (same_error e) (v.says (completion_of x)).errors ≡ true) ms m (AllPass-from_list_all _ ms all) in_ms)
 
     from : IsShared v e → in_each v ms e ≡ true
     from shared = list_all-from_AllPass _ ms (λ i d is. shared _)
@@ -73,7 +73,7 @@ kept_by v test h (e ∷ es) = go (kept_by v test h es) (test e) refl
 -- The shared errors are those of the last member that each member has.
 pub shared_is : (v : Sense) (call : Call) (ms : List Assumptions) (last : Assumptions) → Cover v call [] ms → Faithful v ms → Contains ms last → Extends all_match last
     → Shared v (shared_by v ms last)
-shared_is v call ms last cover faithful in_ms ext = subst (λ o. Kept v o.errors (shared_by v ms last)) (sym (All-contains (λ x. Extends all_match x → v.says all_match ≡ v.says (completion_of x)) ms last (faithful all_match) in_ms ext))
+shared_is v call ms last cover faithful in_ms ext = subst (λ es. Kept v es (shared_by v ms last)) (sym (All-contains (λ x. Extends all_match x → (v.says all_match).errors ≡ (v.says (completion_of x)).errors) ms last (faithful all_match) in_ms ext))
     (kept_by v (in_each v ms) (shared_decides v call ms cover faithful) (errors_of v last))
 
 -- ---- no completion extends two members

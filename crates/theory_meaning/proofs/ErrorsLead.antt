@@ -12,7 +12,7 @@ use Rattle.theory_definitions.specs.Matching.{Completion, Matching, matching}
 use Rattle.theory_definitions.specs.Making.{Request}
 use Rattle.theory_definitions.specs.Keywords.{Answers, Below, here, down, Question, Own, Fault, own, passed}
 use Rattle.theory_definitions.specs.Plan.{Key, Edge, Part, Form, is_refused, keyword, reference, Plan, always, never, these, plan, plan_of, child, requested, reference_edge, height, schema_of, scripted, absolute_of}
-use Rattle.theory_definitions.specs.Meaning.{subject, at, place_below, stamped, fault_error, false_error, false_outcome, asked, referred_to, keyword_outcome, part_outcome, parts_outcome, outcome_of, within, unfold_}
+use Rattle.theory_definitions.specs.Meaning.{subject, at, place_below, stamped, fault_error, false_error, false_outcome, asked, referred_to, keyword_outcome, part_outcome, parts_outcome, outcome_of, within, unfold_, kept}
 use Rattle.theory_definitions.specs.Laws.{IsPresent, steps_below, SpotInside, StandsInside, PassesUnchanged, KeepsLaws}
 use Rattle.theory_meaning.specs.Paths.{Walks, stands, goes, part_edges, names}
 use Rattle.theory_meaning.specs.Numbered.{subject_in}
@@ -242,7 +242,7 @@ module _ {S K R : Type 0} (w : Parts S K R) (absorbs : K → List Text) (laws : 
             let b : Outcome = parts_outcome w instance c k path p ask ys in
             All-append (Leading w root instance locations) a.errors b.errors (form_leads y (h y (zero, omega arith, refl)) y.form refl) (parts_lead ys (λ z is. h z (later y ys z is)))
 
-      plan_leads : (o : Plan K) → plan w k ≡ o → AllLead locations (elim o [ always ↦ accepted | never ↦ false_outcome w.keywords.texts (at w instance k path p) (subject w instance p) | these xs ↦ parts_outcome w instance c k path p ask xs ])
+      plan_leads : (o : Plan K) → plan w k ≡ o → AllLead locations (elim o [ always ↦ accepted | never ↦ false_outcome w.keywords.texts (at w instance k path p) (subject w instance p) | these xs ↦ kept (parts_outcome w instance c k path p ask xs) ])
       plan_leads always is = All-nil (Leading w root instance locations)
       plan_leads never is = All-cons (Leading w root instance locations) _ [] (false_leads w root instance path k locations way p there is) (All-nil (Leading w root instance locations))
       plan_leads (these xs) is = parts_lead xs is xs (λ y in_xs. in_xs)

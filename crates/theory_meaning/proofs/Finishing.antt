@@ -7,7 +7,7 @@ use Rattle.std.proofs.lemmas.List.Elements.{All-nil, All-cons, All-append, All-c
 use Rattle.serde_json.specs.Data.{Data}
 use Rattle.theory_definitions.specs.Instance.{Place, Subject, Text}
 use Rattle.theory_definitions.specs.Matching.{Assumptions, Match, Matcher, Pair, assumed, completed, completion_of, finished, unfinished}
-use Rattle.theory_definitions.specs.Keywords.{Below, Keywords, Marked, MatchPoint, Mode, Question, Reply, Turn, ask, done, ecma, for_all, for_first, for_units, for_verdict, here, mark, match_text, no_reply, truth, unmark}
+use Rattle.theory_definitions.specs.Keywords.{Below, Keywords, Marked, MatchPoint, Mode, Question, Reply, Turn, ask, done, ecma, for_all, for_first, for_units, for_verdict, here, mark, match_text, no_reply, truth, unmark, is_spanned}
 use Rattle.theory_definitions.specs.Parts.{Parts}
 use Rattle.theory_definitions.specs.Plan.{Edge, Form, Key, Part, Plan, always, child, height, keyword, never, plan, reference, reference_edge, same_child, these}
 use Rattle.theory_definitions.specs.Meaning.{Where, asked, at, place_below, subject, within}
@@ -64,6 +64,7 @@ module _ (matcher : Matcher) where
               | mark i ↦ MetIn n (with_mark same i marks) (keywords.turn m s r reply) (truth (list_any (same i) marks))
               | unmark ↦ MetIn n (without_last marks) (keywords.turn m s r reply) no_reply
               | ecma text ↦ MetIn n marks (keywords.turn m s r reply) (truth (matcher.is_ecma text))
+              | is_spanned step ↦ MetIn n marks (keywords.turn m s r reply) (truth false)
               | done ↦ []
             ])
         go (ask q mode) rest = All-append (IsUnfinished matcher) ((run_of q).met mode) _ ((all_meet q).each mode) (rest marks (reply_in mode (run_of q)))
@@ -71,6 +72,7 @@ module _ (matcher : Matcher) where
         go (mark i) rest = rest (with_mark same i marks) (truth (list_any (same i) marks))
         go unmark rest = rest (without_last marks) no_reply
         go (ecma text) rest = rest marks (truth (matcher.is_ecma text))
+        go (is_spanned step) rest = rest marks (truth false)
         go done rest = nothing
 
   -- ---- a plan

@@ -4,10 +4,10 @@ use Rattle.std.specs.Prelude.{Option, Some, None, option_map}
 use Rattle.std.specs.List.{list_any}
 use Rattle.theory_definitions.specs.Instance.{Text, Place, Subject}
 use Rattle.theory_definitions.specs.Pointer.{joined}
-use Rattle.theory_definitions.specs.Reports.{Error, Unit_, report_of, Outcome, accepted}
+use Rattle.theory_definitions.specs.Reports.{Error, Unit_, report_of, Outcome, accepted, spans_nothing}
 use Rattle.theory_definitions.specs.Keywords.{Keywords, Question, Below, here, Mode, for_verdict, for_first, for_all, for_units}
 use Rattle.theory_definitions.specs.Matching.{Matcher, Completion, Assumptions, matching, completion_of, Extends}
-use Rattle.theory_definitions.specs.Meaning.{place_below, stamped, false_outcome}
+use Rattle.theory_definitions.specs.Meaning.{place_below, stamped, false_outcome, kept}
 use Rattle.theory_definitions.specs.Units.{PartUnits, given_units, no_unit, reference_units, true_unit, false_unit, plan_unit}
 use Rattle.theory_definitions.specs.Runs.{Run, Looked, Met, no_run, plan_met}
 use Rattle.theory_definitions.specs.Cover.{mode_of}
@@ -16,7 +16,7 @@ use Rattle.theory_definitions.specs.Laws.{Agrees, KeepsLaws}
 use Rattle.theory_meaning.specs.Members.{AllAssumed, SameIn, Speaks, Follows}
 use Rattle.theory_meaning.specs.Promises.{NodesFollow}
 use Rattle.theory_meaning.proofs.SameTurns.{assumed_front, assumed_back, keyword_same, same_units}
-use Rattle.theory_meaning.proofs.Plans.{Along, ends, goes, along_in_mode, same_itself_in, first_stamped, agrees_both}
+use Rattle.theory_meaning.proofs.Plans.{Along, ends, goes, along_in_mode, same_itself_in, same_kept, first_stamped, agrees_both}
 use Rattle.theory_meaning.proofs.Valid.{EntriesValid, EntryValid, and_true, entries_valid, given_valid, mapped_agrees, none_left, one_more}
 use Rattle.theory_meaning.proofs.Runs.{one_more_entry}
 use Rattle.theory_meaning.proofs.Alike.{EdgesAlike, children_alike, edges_alike}
@@ -79,8 +79,8 @@ module _ {K R : Type 0} (keywords : Keywords K R) (matcher : Matcher) (nodes : N
     option_valid (Some e) b = valid e b
 
     pub part_agrees : (name : Text) (form : NodeForm K) → Agrees (Out name form)
-    part_agrees name (node_keyword m es) = mapped_agrees _ _ _ ((laws m).agree (subject_of p) (matching matcher c) (node_asked keywords matcher nodes subject_of accepted es g) (λ q. option_agrees (node_child es q.child) q.below))
-    part_agrees name (node_reference e) = mapped_agrees _ _ _ (agrees e here)
+    part_agrees name (node_keyword m es) = mapped_agrees _ _ _ spans_nothing ((laws m).agree (subject_of p) (matching matcher c) (node_asked keywords matcher nodes subject_of accepted es g) (λ q. option_agrees (node_child es q.child) q.below))
+    part_agrees name (node_reference e) = mapped_agrees _ _ _ spans_nothing (agrees e here)
 
     form_valid : (name : Text) (form : NodeForm K) → EntryValid (Units_of name form) (Out name form)
     form_valid name (node_keyword m es) =
@@ -94,7 +94,7 @@ module _ {K R : Type 0} (keywords : Keywords K R) (matcher : Matcher) (nodes : N
 
     parts_agree : (xs : List (NodePart K)) → Agrees (node_parts keywords matcher nodes subject_of c i path p g xs)
     parts_agree [] = (λ e. refl, λ e. refl)
-    parts_agree (x ∷ xs) = agrees_both _ _ (part_agrees x.name x.form) (parts_agree xs)
+    parts_agree (x ∷ xs) = agrees_both (node_part keywords matcher nodes subject_of c i path p g x.name x.form) (node_parts keywords matcher nodes subject_of c i path p g xs) (part_agrees x.name x.form) (parts_agree xs)
 
     parts_valid : (xs : List (NodePart K)) → EntriesValid (node_entries_of keywords matcher nodes subject_of c i path p u xs) (node_parts keywords matcher nodes subject_of c i path p g xs)
     parts_valid [] = none_left
@@ -103,7 +103,7 @@ module _ {K R : Type 0} (keywords : Keywords K R) (matcher : Matcher) (nodes : N
     pub node_agrees : Agrees (node_outcome keywords matcher nodes subject_of c i path p g)
     node_agrees = go (nodes.entries i)
       where
-        go : (o : NodePlan K) → Agrees (elim o [ node_always ↦ accepted | node_never ↦ false_outcome keywords.texts (node_at keywords matcher nodes subject_of i path p) (subject_of p) | node_these xs ↦ node_parts keywords matcher nodes subject_of c i path p g xs ])
+        go : (o : NodePlan K) → Agrees (elim o [ node_always ↦ accepted | node_never ↦ false_outcome keywords.texts (node_at keywords matcher nodes subject_of i path p) (subject_of p) | node_these xs ↦ kept (node_parts keywords matcher nodes subject_of c i path p g xs) ])
         go node_always = (λ e. refl, λ e. refl)
         go node_never = (λ e. absurd (cc e), λ e. absurd (cc e))
         go (node_these xs) = parts_agree xs
@@ -116,7 +116,7 @@ module _ {K R : Type 0} (keywords : Keywords K R) (matcher : Matcher) (nodes : N
           | node_never ↦ false_unit keywords.texts (node_at keywords matcher nodes subject_of i path p) (subject_of p)
           | node_these xs ↦ plan_unit (node_at keywords matcher nodes subject_of i path p) (nodes.annotations i) (node_entries_of keywords matcher nodes subject_of c i path p u xs)
         ])).valid
-            ≡ (let x : Outcome = elim o [ node_always ↦ accepted | node_never ↦ false_outcome keywords.texts (node_at keywords matcher nodes subject_of i path p) (subject_of p) | node_these xs ↦ node_parts keywords matcher nodes subject_of c i path p g xs ] in x.verdict)
+            ≡ (let x : Outcome = elim o [ node_always ↦ accepted | node_never ↦ false_outcome keywords.texts (node_at keywords matcher nodes subject_of i path p) (subject_of p) | node_these xs ↦ kept (node_parts keywords matcher nodes subject_of c i path p g xs) ] in x.verdict)
         go node_always = refl
         go node_never = refl
         go (node_these xs) = entries_valid (parts_valid xs)
@@ -217,11 +217,11 @@ module _ {K R : Type 0} (keywords : Keywords K R) (matcher : Matcher) (nodes : N
       entries_same (x ∷ xs) e = one_more_entry x.priority (form_units x.name x.form (assumed_front as' _ _ e)) (entries_same xs (assumed_back as' (MetBy x.name x.form for_units) _ e))
 
       in_plan : (o : NodePlan K) (mode : Mode) → AllAssumed as' (elim o [ node_always ↦ [] | node_never ↦ [] | node_these xs ↦ plan_met mode (Look xs) ])
-          → SameIn mode (elim o [ node_always ↦ accepted | node_never ↦ false_outcome keywords.texts (node_at keywords matcher nodes subject_of i path p) (subject_of p) | node_these xs ↦ node_parts keywords matcher nodes subject_of (completion_of as') i path p g1 xs ])
-          (elim o [ node_always ↦ accepted | node_never ↦ false_outcome keywords.texts (node_at keywords matcher nodes subject_of i path p) (subject_of p) | node_these xs ↦ node_parts keywords matcher nodes subject_of c i path p g xs ])
+          → SameIn mode (elim o [ node_always ↦ accepted | node_never ↦ false_outcome keywords.texts (node_at keywords matcher nodes subject_of i path p) (subject_of p) | node_these xs ↦ kept (node_parts keywords matcher nodes subject_of (completion_of as') i path p g1 xs) ])
+          (elim o [ node_always ↦ accepted | node_never ↦ false_outcome keywords.texts (node_at keywords matcher nodes subject_of i path p) (subject_of p) | node_these xs ↦ kept (node_parts keywords matcher nodes subject_of c i path p g xs) ])
       in_plan node_always mode e = same_itself_in mode _
       in_plan node_never mode e = same_itself_in mode _
-      in_plan (node_these xs) mode e = along_in_mode as' mode (along xs) e
+      in_plan (node_these xs) mode e = same_kept mode _ _ (along_in_mode as' mode (along xs) e)
 
       units_in_plan : (o : NodePlan K) → AllAssumed as' (elim o [ node_always ↦ [] | node_never ↦ [] | node_these xs ↦ plan_met for_units (Look xs) ])
           → ◌≡◌ {A = Unit_}

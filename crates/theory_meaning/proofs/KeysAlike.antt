@@ -10,7 +10,7 @@ use Rattle.theory_definitions.specs.Parts.{Parts}
 use Rattle.theory_definitions.specs.Matching.{Completion, matching}
 use Rattle.theory_definitions.specs.Making.{Request}
 use Rattle.theory_definitions.specs.Plan.{Key, Edge, Part, Form, keyword, reference, Plan, always, never, these, plan, child, reference_edge, same_child, same_edge_key}
-use Rattle.theory_definitions.specs.Meaning.{at, subject, asked, place_below, false_outcome, part_outcome, parts_outcome, outcome_of}
+use Rattle.theory_definitions.specs.Meaning.{at, subject, asked, place_below, false_outcome, part_outcome, parts_outcome, outcome_of, kept}
 use Rattle.theory_definitions.specs.Laws.{AnsweredAlike}
 use Rattle.theory_definitions.proofs.Products.{in_either}
 use Rattle.theory_meaning.proofs.SameRun.{same_key_is}
@@ -53,8 +53,8 @@ module _ {S K R : Type 0} (w : Parts S K R) (instance : Data) where
       key_verdict = go (plan w k)
         where
           go : (o : Plan K)
-              → (let x : Outcome = elim o [ always ↦ accepted | never ↦ false_outcome w.keywords.texts (at w instance k path p) (subject w instance p) | these xs ↦ parts_outcome w instance c k path p f xs ] in x.verdict)
-              ≡ (let x : Outcome = elim o [ always ↦ accepted | never ↦ false_outcome w.keywords.texts (at w instance k path' p) (subject w instance p) | these xs ↦ parts_outcome w instance c k path' p g xs ] in x.verdict)
+              → (let x : Outcome = elim o [ always ↦ accepted | never ↦ false_outcome w.keywords.texts (at w instance k path p) (subject w instance p) | these xs ↦ kept (parts_outcome w instance c k path p f xs) ] in x.verdict)
+              ≡ (let x : Outcome = elim o [ always ↦ accepted | never ↦ false_outcome w.keywords.texts (at w instance k path' p) (subject w instance p) | these xs ↦ kept (parts_outcome w instance c k path' p g xs) ] in x.verdict)
           go always = refl
           go never = refl
           go (these xs) = parts_verdict xs

@@ -29,6 +29,7 @@ mod KeysAlike
 mod Plans
 mod Senses
 pub mod Sentences
+mod SpansRead
 mod Valid
 mod Runs
 pub mod PlainSense

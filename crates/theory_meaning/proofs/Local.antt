@@ -3,18 +3,19 @@ use Rattle.std.proofs.Common.{◌≡◌, zero, List, [], ◌∷◌, refl, ap, ap
 use Rattle.std.specs.Prelude.{All, Contains, Option, Some, None, map}
 use Rattle.std.proofs.lemmas.List.Elements.{All-contains_itself}
 use Rattle.serde_json.specs.Data.{Data}
-use Rattle.theory_definitions.specs.Instance.{Text, Place}
+use Rattle.theory_definitions.specs.Instance.{Text, Place, Step}
 use Rattle.theory_definitions.specs.Reports.{Error, Outcome, accepted}
 use Rattle.theory_definitions.specs.Parts.{Parts}
 use Rattle.theory_definitions.specs.Keywords.{Question}
 use Rattle.theory_definitions.specs.Matching.{Completion, matching}
 use Rattle.theory_definitions.specs.Plan.{Key, Edge, Part, Form, keyword, reference, Plan, always, never, these, plan, child, reference_edge}
-use Rattle.theory_definitions.specs.Meaning.{at, subject, asked, place_below, part_outcome, parts_outcome, outcome_of, reference_outcome, false_outcome, fault_error, both}
+use Rattle.theory_definitions.specs.Meaning.{at, subject, asked, place_below, part_outcome, parts_outcome, outcome_of, reference_outcome, false_outcome, fault_error, both, kept}
 use Rattle.theory_meaning.proofs.Reading.{Reads}
 use Rattle.theory_meaning.proofs.Questions.{later, PartAsks, by_keyword, by_reference, Asks}
+use Rattle.theory_meaning.proofs.SpansRead.{spans_same}
 
-pub same_outcome : {v v' : Bool} {es es' : List Error} → v ≡ v' → es ≡ es' → ◌≡◌ {A = Outcome} (record { verdict = v; errors = es }) (record { verdict = v'; errors = es' })
-same_outcome p q = λ i. record { verdict = p i; errors = q i }
+pub same_outcome : {v v' : Bool} {es es' : List Error} {ss ss' : Step → Bool} → v ≡ v' → es ≡ es' → ss ≡ ss' → ◌≡◌ {A = Outcome} (record { verdict = v; errors = es; spans = ss }) (record { verdict = v'; errors = es'; spans = ss' })
+same_outcome p q r = λ i. record { verdict = p i; errors = q i; spans = r i }
 
 pub each_asked : {A : Type 0} (P : A → Type 0) (xs : List A) → ((x : A) → Contains xs x → P x) → All P xs
 each_asked P xs h = λ i d is. h _ (All-contains_itself xs i d is)
@@ -36,6 +37,7 @@ module _ {S K R : Type 0} (w : Parts S K R) (instance : Data) (c : Completion) (
         same_outcome
         (reads.holds_reads m (subject w instance p) (matching w.matcher c) _ _ (each_asked _ qs (λ q is. ap (λ o. o.verdict) (each q is))))
         (ap (map (fault_error (at w instance k path p) name)) (reads.faults_read m (subject w instance p) (matching w.matcher c) _ _ (each_asked _ qs each)))
+        (spans_same w.keywords m (subject w instance p) (matching w.matcher c) _ _ (reads.spans_read m (subject w instance p)) each)
     part_same name (reference kind text) e = ap (reference_outcome (at w instance k path p) name) (asked_same (reference_edge w k name kind text) p (λ edge is. e edge p (by_reference is)))
 
     parts_same : (xs : List (Part K)) → ((x : Part K) → Contains xs x → (edge : Edge S) (q : Place) → PartAsks w instance k p x.name x.form edge q → f edge q ≡ g edge q)
@@ -44,11 +46,11 @@ module _ {S K R : Type 0} (w : Parts S K R) (instance : Data) (c : Completion) (
     parts_same (x ∷ xs) e = ap₂ both (part_same x.name x.form (e x (zero, omega arith, refl))) (parts_same xs (λ y is. e y (later x xs y is)))
 
     plan_same : (o : Plan K) → ((xs : List (Part K)) → o ≡ these xs → (x : Part K) → Contains xs x → (edge : Edge S) (q : Place) → PartAsks w instance k p x.name x.form edge q → f edge q ≡ g edge q)
-        → ◌≡◌ {A = Outcome} (elim o [ always ↦ accepted | never ↦ false_outcome w.keywords.texts (at w instance k path p) (subject w instance p) | these xs ↦ parts_outcome w instance c k path p f xs ])
-        (elim o [ always ↦ accepted | never ↦ false_outcome w.keywords.texts (at w instance k path p) (subject w instance p) | these xs ↦ parts_outcome w instance c k path p g xs ])
+        → ◌≡◌ {A = Outcome} (elim o [ always ↦ accepted | never ↦ false_outcome w.keywords.texts (at w instance k path p) (subject w instance p) | these xs ↦ kept (parts_outcome w instance c k path p f xs) ])
+        (elim o [ always ↦ accepted | never ↦ false_outcome w.keywords.texts (at w instance k path p) (subject w instance p) | these xs ↦ kept (parts_outcome w instance c k path p g xs) ])
     plan_same always e = refl
     plan_same never e = refl
-    plan_same (these xs) e = parts_same xs (e xs refl)
+    plan_same (these xs) e = ap kept (parts_same xs (e xs refl))
 
   pub outcome_local : (k : Key S) (path : Text) (p : Place) (f g : Edge S → Place → Outcome)
       → ((edge : Edge S) (q : Place) → Asks w instance k p edge q → f edge q ≡ g edge q) → outcome_of w instance c k path p f ≡ outcome_of w instance c k path p g

@@ -10,7 +10,7 @@ use Rattle.theory_definitions.specs.Parts.{Parts}
 use Rattle.theory_definitions.specs.Matching.{Completion, matching}
 use Rattle.theory_definitions.specs.Keywords.{Below, here}
 use Rattle.theory_definitions.specs.Plan.{Key, Edge, Part, Form, keyword, reference, Plan, always, never, these, plan, child, requested, reference_edge}
-use Rattle.theory_definitions.specs.Meaning.{Where, at, place_below, stamped, false_outcome, keyword_outcome, reference_outcome}
+use Rattle.theory_definitions.specs.Meaning.{Where, at, place_below, stamped, false_outcome, keyword_outcome, reference_outcome, kept}
 use Rattle.theory_meaning.specs.Paths.{part_edges}
 use Rattle.theory_definitions.specs.Guarded.{NodeEdge, node_child, NodeForm, node_keyword, node_reference, NodePart, NodePlan, node_always, node_never, node_these, Nodes, progress_below, across, guarded_within, node_at, node_asked, node_part, node_parts, node_outcome, yes_outcome}
 use Rattle.theory_meaning.specs.Numbered.{Numbers, IsNumber, SameEdge, SameForm, SamePart, SameParts, SamePlan, StandsFor, AreNumbered, subject_in}
@@ -71,7 +71,7 @@ module _ {S K R : Type 0} (w : Parts S K R) (absorbs : K → List Text) (laws : 
         All-append (Leading w root instance locations) a.errors b.errors (part_leads all is y (h y (zero, omega arith, refl)) x s.0) (parts_lead all is xs ys s.1 (λ z in_ys. h z (later y ys z in_ys)))
 
     plan_leads : (n : NodePlan K) (o : Plan K) → plan w k ≡ o → SamePlan w keys nodes k n o
-        → Lead locations (elim n [ node_always ↦ accepted | node_never ↦ false_outcome w.keywords.texts (node_at w.keywords w.matcher nodes (subject_in instance) i path p) (subject_in instance p) | node_these xs ↦ node_parts w.keywords w.matcher nodes (subject_in instance) c i path p go xs ])
+        → Lead locations (elim n [ node_always ↦ accepted | node_never ↦ false_outcome w.keywords.texts (node_at w.keywords w.matcher nodes (subject_in instance) i path p) (subject_in instance p) | node_these xs ↦ kept (node_parts w.keywords w.matcher nodes (subject_in instance) c i path p go xs) ])
     plan_leads node_always o is s = nothing_leads locations
     plan_leads node_never never is s = subst (λ (x' : Where). Lead locations (false_outcome w.keywords.texts x' (subject_in instance p))) (sym at_same)
         (All-cons (Leading w root instance locations) _ [] (false_leads w root instance path k locations way p there is) (nothing_leads locations))

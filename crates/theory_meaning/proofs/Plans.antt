@@ -5,7 +5,7 @@ use Rattle.std.specs.Prelude.{None, option_map}
 use Rattle.theory_definitions.specs.Reports.{Error, Outcome, accepted}
 use Rattle.theory_definitions.specs.Matching.{Assumptions}
 use Rattle.theory_definitions.specs.Keywords.{Mode, for_verdict, for_first, for_all, for_units}
-use Rattle.theory_definitions.specs.Meaning.{both}
+use Rattle.theory_definitions.specs.Meaning.{both, kept}
 use Rattle.theory_definitions.specs.Runs.{Looked, plan_met, first_error}
 use Rattle.theory_definitions.specs.Laws.{Agrees}
 use Rattle.theory_meaning.specs.Members.{AllAssumed, SameIn}
@@ -55,6 +55,13 @@ same_itself_in for_verdict o = refl
 same_itself_in for_first o = refl
 same_itself_in for_all o = refl
 same_itself_in for_units o = refl
+
+-- No mode sees what a plan spans.
+pub same_kept : (mode : Mode) (a b : Outcome) → SameIn mode a b → SameIn mode (kept a) (kept b)
+same_kept for_verdict a b e = e
+same_kept for_first a b e = e
+same_kept for_all a b e = e
+same_kept for_units a b e = e
 
 none_both : (a b : Outcome) → Agrees a → Agrees b → (a.errors ≡ [] → b.errors ≡ []) → (b.errors ≡ [] → a.errors ≡ []) → a.verdict ≡ b.verdict
 none_both a b p q to from = by a.verdict b.verdict refl refl

@@ -10,7 +10,7 @@ use Rattle.theory_definitions.specs.Parts.{Parts}
 use Rattle.theory_definitions.specs.Matching.{Completion, Assumptions, matching, completion_of, Extends}
 use Rattle.theory_definitions.specs.Keywords.{Mode, for_verdict, for_first, for_all, for_units}
 use Rattle.theory_definitions.specs.Plan.{Key, Edge, height, Part, Form, keyword, reference, Plan, always, never, these, plan, child, reference_edge, same_child, absolute_of}
-use Rattle.theory_definitions.specs.Meaning.{at, subject, asked, referred_to, within, unfold_, unfolded, part_outcome, parts_outcome, outcome_of, false_outcome, stamped}
+use Rattle.theory_definitions.specs.Meaning.{at, subject, asked, referred_to, within, unfold_, unfolded, part_outcome, parts_outcome, outcome_of, false_outcome, stamped, kept}
 use Rattle.theory_definitions.specs.Units.{Entry, PartUnits, plain_units, part_units, entries_of, unit_of, given_units, reference_units, no_unit, annotations_of, true_unit, false_unit, plan_unit}
 use Rattle.theory_definitions.specs.Runs.{Run, looked, plan_met, part_met, no_run, run_node, run, first_error}
 use Rattle.theory_definitions.specs.Laws.{Agrees, EachKeeps, KeepsLaws}
@@ -20,7 +20,7 @@ use Rattle.theory_meaning.specs.Headline.{at_root}
 use Rattle.theory_meaning.specs.Numbered.{MakersAskBelow, ValuesInside}
 use Rattle.theory_meaning.specs.Members.{AllAssumed, SameIn, Speaks}
 use Rattle.theory_meaning.proofs.SameTurns.{assumed_front, assumed_back, keyword_same, same_units}
-use Rattle.theory_meaning.proofs.Plans.{Along, ends, goes, along_in_mode, same_itself_in, first_stamped}
+use Rattle.theory_meaning.proofs.Plans.{Along, ends, goes, along_in_mode, same_itself_in, same_kept, first_stamped}
 use Rattle.theory_meaning.proofs.Valid.{part_agrees, node_agrees, node_valid}
 use Rattle.theory_meaning.proofs.Reading.{reads_of}
 use Rattle.theory_meaning.proofs.Questions.{Asks}
@@ -145,11 +145,11 @@ module _ {S K R : Type 0} (w : Parts S K R) (instance : Data) (absorbs : K → L
     entries_same (x ∷ xs) e = one_more_entry x.priority (form_units x.name x.form (assumed_front as' _ _ e)) (entries_same xs (assumed_back as' (part_met w instance as' k path p f x.name x.form for_units) _ e))
 
     in_plan : (o : Plan K) (mode : Mode) → AllAssumed as' (elim o [ always ↦ [] | never ↦ [] | these xs ↦ plan_met mode (looked w instance as' k path p f xs) ])
-        → SameIn mode (elim o [ always ↦ accepted | never ↦ false_outcome w.keywords.texts (at w instance k path p) (subject w instance p) | these xs ↦ parts_outcome w instance (completion_of as') k path p g1 xs ])
-        (elim o [ always ↦ accepted | never ↦ false_outcome w.keywords.texts (at w instance k path p) (subject w instance p) | these xs ↦ parts_outcome w instance c k path p g xs ])
+        → SameIn mode (elim o [ always ↦ accepted | never ↦ false_outcome w.keywords.texts (at w instance k path p) (subject w instance p) | these xs ↦ kept (parts_outcome w instance (completion_of as') k path p g1 xs) ])
+        (elim o [ always ↦ accepted | never ↦ false_outcome w.keywords.texts (at w instance k path p) (subject w instance p) | these xs ↦ kept (parts_outcome w instance c k path p g xs) ])
     in_plan always mode e = same_itself_in mode _
     in_plan never mode e = same_itself_in mode _
-    in_plan (these xs) mode e = along_in_mode as' mode (along xs) e
+    in_plan (these xs) mode e = same_kept mode _ _ (along_in_mode as' mode (along xs) e)
 
     units_in_plan : (o : Plan K) → AllAssumed as' (elim o [ always ↦ [] | never ↦ [] | these xs ↦ plan_met for_units (looked w instance as' k path p f xs) ])
         → ◌≡◌ {A = Unit_}

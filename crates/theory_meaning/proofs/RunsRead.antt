@@ -1,12 +1,12 @@
 -- The outcome, the units and the matches of a keyword depend only on the answers to questions that
 -- it may ask.
-use Rattle.std.proofs.Common.{◌≡◌, ℕ, zero, suc, List, [], ◌∷◌, ◌++◌, refl, ap, ◌∙◌, Bool}
+use Rattle.std.proofs.Common.{◌≡◌, ℕ, zero, suc, List, [], ◌∷◌, ◌++◌, refl, ap, ◌∙◌, Bool, false}
 use Rattle.std.specs.Prelude.{Contains}
 use Rattle.std.specs.List.{list_any}
 use Rattle.theory_definitions.specs.Instance.{Text, Subject}
 use Rattle.theory_definitions.specs.Reports.{Unit_}
 use Rattle.theory_definitions.specs.Matching.{Assumptions, Match, Matcher, Matching, completed, completion_of, finished, unfinished}
-use Rattle.theory_definitions.specs.Keywords.{Keywords, Marked, Mode, Question, Reply, Turn, ask, done, ecma, mark, match_text, no_reply, truth, unmark}
+use Rattle.theory_definitions.specs.Keywords.{Keywords, Marked, Mode, Question, Reply, Turn, ask, done, ecma, mark, match_text, no_reply, truth, unmark, is_spanned}
 use Rattle.theory_definitions.specs.Meaning.{Where}
 use Rattle.theory_definitions.specs.Units.{given_units, keyword_units}
 use Rattle.theory_definitions.specs.Runs.{Met, Run, keyword_met, reply_in, site_at, turns, with_mark, without_last}
@@ -27,6 +27,7 @@ module _ {K R : Type 0} (keywords : Keywords K R) (matcher : Matcher) (as' : Ass
     | mark i ↦ rest (with_mark same i marks) (truth (list_any (same i) marks))
     | unmark ↦ rest (without_last marks) no_reply
     | ecma text ↦ rest marks (truth (matcher.is_ecma text))
+    | is_spanned step ↦ rest marks (truth false)
     | done ↦ []
   ]
 
@@ -43,6 +44,7 @@ module _ {K R : Type 0} (keywords : Keywords K R) (matcher : Matcher) (as' : Ass
     turn_same rest rest' h marks (mark i) is = h (with_mark same i marks) _
     turn_same rest rest' h marks unmark is = h _ no_reply
     turn_same rest rest' h marks (ecma text) is = h marks _
+    turn_same rest rest' h marks (is_spanned step) is = h marks _
     turn_same rest rest' h marks done is = refl
 
     pub turns_same : (n : ℕ) (marks : List Marked) (r : R) (reply : Reply) → AlwaysAsksRightly keywords m s absorbed n r reply

@@ -10,7 +10,7 @@ use Rattle.theory_definitions.specs.Matching.{Completion, matching}
 use Rattle.theory_definitions.specs.Keywords.{Below, here, Question}
 use Rattle.theory_definitions.specs.Making.{Request}
 use Rattle.theory_definitions.specs.Plan.{Key, Edge, Part, Form, keyword, reference, Reference, Plan, always, never, these, plan, child, requested, reference_edge, option_list}
-use Rattle.theory_definitions.specs.Meaning.{subject, Where, at, place_below, asked, referred_to, keyword_outcome, reference_outcome, false_outcome, fault_error, both, part_outcome, parts_outcome, outcome_of}
+use Rattle.theory_definitions.specs.Meaning.{subject, Where, at, place_below, asked, referred_to, keyword_outcome, reference_outcome, false_outcome, fault_error, both, part_outcome, parts_outcome, outcome_of, kept}
 use Rattle.theory_meaning.specs.Paths.{edges, part_edges}
 use Rattle.theory_definitions.specs.Laws.{IsPresent, steps_below}
 use Rattle.theory_definitions.specs.Guarded.{NodeEdge, Children, node_child, NodeForm, node_keyword, node_reference, NodePart, NodePlan, node_always, node_never, node_these, Nodes, form_edges, node_edges, node_at, node_asked, node_part, node_parts, node_outcome, yes_outcome}
@@ -22,6 +22,7 @@ use Rattle.theory_meaning.proofs.Simulates.{BothAsk, says_unfolding}
 use Rattle.theory_meaning.proofs.Depths.{ByMeasure, measure_on, measure_less, measure_first}
 use Rattle.theory_meaning.proofs.Inside.{subschemas_inside}
 use Rattle.theory_meaning.proofs.Local.{same_outcome, each_asked}
+use Rattle.theory_meaning.proofs.SpansRead.{spans_same}
 
 pub in_option_list : {A : Type 0} (o : Option A) (x : A) → o ≡ Some x → Contains (option_list o) x
 in_option_list o x e = subst (λ u. Contains (option_list u) x) (sym e) (zero, omega arith, refl)
@@ -111,6 +112,7 @@ module _ {S K R : Type 0} (w : Parts S K R) (instance : Data) (keys : Numbers S)
           ∙ same_outcome
           (reads.holds_reads m' x (matching w.matcher c) _ _ (each_asked _ qs (λ q is. ap (λ o. o.verdict) (each q is))))
           (ap (map (fault_error (at w instance k path p) name)) (reads.faults_read m' x (matching w.matcher c) _ _ (each_asked _ qs each)))
+          (spans_same w.keywords m' x (matching w.matcher c) _ _ (reads.spans_read m' x) each)
       form_same name (node_reference e) (reference kind text) s h = λ j. reference_outcome (at_same j) name (reference_asked accepted f g name e kind text s h j)
       form_same name (node_keyword m es) (reference kind text) s h = absurd s
       form_same name (node_reference e) (keyword m' requests absorbed) s h = absurd s
@@ -130,11 +132,11 @@ module _ {S K R : Type 0} (w : Parts S K R) (instance : Data) (keys : Numbers S)
 
       plan_same : (n : NodePlan K) (o : Plan K) → nodes.entries i ≡ n → plan w k ≡ o → SamePlan w keys nodes k n o
           → ((e : NodeEdge) (b : Below) (edge : Edge S) → BothAsk w instance keys nodes i k p e b edge → f e b ≡ g edge (place_below p b))
-          → ◌≡◌ {A = Outcome} (elim n [ node_always ↦ accepted | node_never ↦ false_outcome w.keywords.texts (node_at w.keywords w.matcher nodes (subject w instance) i path p) (subject w instance p) | node_these xs ↦ node_parts w.keywords w.matcher nodes (subject w instance) c i path p f xs ])
-          (elim o [ always ↦ accepted | never ↦ false_outcome w.keywords.texts (at w instance k path p) (subject w instance p) | these ys ↦ parts_outcome w instance c k path p g ys ])
+          → ◌≡◌ {A = Outcome} (elim n [ node_always ↦ accepted | node_never ↦ false_outcome w.keywords.texts (node_at w.keywords w.matcher nodes (subject w instance) i path p) (subject w instance p) | node_these xs ↦ kept (node_parts w.keywords w.matcher nodes (subject w instance) c i path p f xs) ])
+          (elim o [ always ↦ accepted | never ↦ false_outcome w.keywords.texts (at w instance k path p) (subject w instance p) | these ys ↦ kept (parts_outcome w instance c k path p g ys) ])
       plan_same node_always always is_n is_o s h = refl
       plan_same node_never never is_n is_o s h = λ j. false_outcome w.keywords.texts (at_same j) (subject w instance p)
-      plan_same (node_these xs) (these ys) is_n is_o s h = parts_same xs ys s (whole_asks accepted f g xs ys is_n is_o h)
+      plan_same (node_these xs) (these ys) is_n is_o s h = ap kept (parts_same xs ys s (whole_asks accepted f g xs ys is_n is_o h))
       plan_same node_always never is_n is_o s h = absurd s
       plan_same node_always (these ys) is_n is_o s h = absurd s
       plan_same node_never always is_n is_o s h = absurd s

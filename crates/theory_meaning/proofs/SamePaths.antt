@@ -5,9 +5,9 @@ use Rattle.std.specs.Prelude.{Option, Some, None, if◌then◌else◌, is_some, 
 use Rattle.std.specs.List.{list_any}
 use Rattle.theory_definitions.specs.Instance.{Text, Place, Subject}
 use Rattle.theory_definitions.specs.Matching.{Assumptions, Completion, Match, Matcher, completed, completion_of, finished, matching, unfinished}
-use Rattle.theory_definitions.specs.Keywords.{Below, Keywords, Marked, Question, Reply, Turn, ask, done, ecma, for_verdict, here, mark, match_text, no_reply, truth, unmark}
+use Rattle.theory_definitions.specs.Keywords.{Below, Keywords, Marked, Question, Reply, Turn, ask, done, ecma, for_verdict, here, mark, match_text, no_reply, truth, unmark, is_spanned}
 use Rattle.theory_definitions.specs.Reports.{Outcome, accepted}
-use Rattle.theory_definitions.specs.Meaning.{Where, false_outcome, place_below}
+use Rattle.theory_definitions.specs.Meaning.{Where, false_outcome, place_below, kept}
 use Rattle.theory_definitions.specs.Runs.{Met, Run, no_run, plan_met, reply_in, site_at, turns, with_mark, without_last}
 use Rattle.theory_definitions.specs.Guarded.{NodeEdge, NodeForm, NodePart, NodePlan, Nodes, guarded_node, guarded_within, node_always, node_asked, node_at, node_child, node_keyword, node_looked, node_never, node_outcome, node_part, node_part_met, node_parts, node_reference, node_these, progress_below, same_edge, yes_outcome, yes_run}
 use Rattle.theory_definitions.specs.Remembering.{AlwaysAsksVerdict, AsksVerdict, EachAsksVerdicts, PathsKeepRuns, PathsKeepVerdicts, SameMets, SameRuns}
@@ -55,6 +55,7 @@ module _ {K R : Type 0} (keywords : Keywords K R) (matcher : Matcher) (as' : Ass
             | mark i ↦ One n (with_mark same i marks) r' (truth (list_any (same i) marks))
             | unmark ↦ One n (without_last marks) r' no_reply
             | ecma text ↦ One n marks r' (truth (matcher.is_ecma text))
+            | is_spanned step ↦ One n marks r' (truth false)
             | done ↦ []
           ])
           (elim t [
@@ -66,6 +67,7 @@ module _ {K R : Type 0} (keywords : Keywords K R) (matcher : Matcher) (as' : Ass
             | mark i ↦ Other n (with_mark same i marks) r' (truth (list_any (same i) marks))
             | unmark ↦ Other n (without_last marks) r' no_reply
             | ecma text ↦ Other n marks r' (truth (matcher.is_ecma text))
+            | is_spanned step ↦ Other n marks r' (truth false)
             | done ↦ []
           ])
       go r' (ask q mode) e rest =
@@ -89,6 +91,7 @@ module _ {K R : Type 0} (keywords : Keywords K R) (matcher : Matcher) (as' : Ass
       go r' (mark i) e rest = rest (with_mark same i marks) (truth (list_any (same i) marks))
       go r' unmark e rest = rest (without_last marks) no_reply
       go r' (ecma text) e rest = rest marks (truth (matcher.is_ecma text))
+      go r' (is_spanned step) e rest = rest marks (truth false)
       go r' done e rest = tt
 
 -- ---- the verdict of a node, given the answers of its edges
@@ -112,8 +115,8 @@ module _ {K R : Type 0} (keywords : Keywords K R) (matcher : Matcher) (nodes : N
 
   plan_verdict : (o : NodePlan K)
       → ◌≡◌ {A = Bool}
-      (let r : Outcome = elim o [ node_always ↦ accepted | node_never ↦ false_outcome keywords.texts (node_at keywords matcher nodes subject_of i path p) (subject_of p) | node_these xs ↦ node_parts keywords matcher nodes subject_of c i path p f xs ] in r.verdict)
-      (let r : Outcome = elim o [ node_always ↦ accepted | node_never ↦ false_outcome keywords.texts (node_at keywords matcher nodes subject_of i path' p) (subject_of p) | node_these xs ↦ node_parts keywords matcher nodes subject_of c i path' p g xs ] in r.verdict)
+      (let r : Outcome = elim o [ node_always ↦ accepted | node_never ↦ false_outcome keywords.texts (node_at keywords matcher nodes subject_of i path p) (subject_of p) | node_these xs ↦ kept (node_parts keywords matcher nodes subject_of c i path p f xs) ] in r.verdict)
+      (let r : Outcome = elim o [ node_always ↦ accepted | node_never ↦ false_outcome keywords.texts (node_at keywords matcher nodes subject_of i path' p) (subject_of p) | node_these xs ↦ kept (node_parts keywords matcher nodes subject_of c i path' p g xs) ] in r.verdict)
   plan_verdict node_always = refl
   plan_verdict node_never = refl
   plan_verdict (node_these xs) = parts_verdict xs

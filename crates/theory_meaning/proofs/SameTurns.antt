@@ -6,7 +6,7 @@ use Rattle.std.specs.List.{list_any}
 use Rattle.theory_definitions.specs.Instance.{Text, Subject}
 use Rattle.theory_definitions.specs.Reports.{Error, Unit_, report_of, Outcome}
 use Rattle.theory_definitions.specs.Matching.{Match, finished, unfinished, Matcher, Matching, matching, settled, Completion, completed, Assumptions, assumed, completion_of, Extends}
-use Rattle.theory_definitions.specs.Keywords.{Marked, Question, Mode, for_verdict, for_first, for_all, for_units, Fault, Reply, no_reply, truth, first_of_it, all_of_it, unit_of_it, Turn, ask, match_text, mark, unmark, ecma, done, Keywords}
+use Rattle.theory_definitions.specs.Keywords.{Marked, Question, Mode, for_verdict, for_first, for_all, for_units, Fault, Reply, no_reply, truth, first_of_it, all_of_it, unit_of_it, Turn, ask, match_text, mark, unmark, ecma, done, Keywords, is_spanned}
 use Rattle.theory_definitions.specs.Meaning.{Where, keyword_outcome, fault_error}
 use Rattle.theory_definitions.specs.Runs.{Met, site_at, Run, first_error, reply_in, turns, keyword_met, with_mark, without_last}
 use Rattle.theory_definitions.specs.Laws.{Agrees, AnsweredAlike, first_fault, answer_in, ended, IsRight, KeepsLaws}
@@ -99,6 +99,7 @@ module _ {K R : Type 0} (keywords : Keywords K R) (matcher : Matcher) (as' : Ass
             | mark i ↦ MetIn n (with_mark same i marks) (keywords.turn m s r reply) (truth (list_any (same i) marks))
             | unmark ↦ MetIn n (without_last marks) (keywords.turn m s r reply) no_reply
             | ecma text ↦ MetIn n marks (keywords.turn m s r reply) (truth (matcher.is_ecma text))
+            | is_spanned step ↦ MetIn n marks (keywords.turn m s r reply) (truth false)
             | done ↦ []
           ])
           → ◌≡◌ {A = Option R} (elim t [
@@ -107,6 +108,7 @@ module _ {K R : Type 0} (keywords : Keywords K R) (matcher : Matcher) (as' : Ass
             | mark i ↦ Ended1 n (with_mark same i marks) (keywords.turn m s r reply) (truth (list_any (same i) marks))
             | unmark ↦ Ended1 n (without_last marks) (keywords.turn m s r reply) no_reply
             | ecma text ↦ Ended1 n marks (keywords.turn m s r reply) (truth (WhenAssumed.is_ecma text))
+            | is_spanned step ↦ Ended1 n marks (keywords.turn m s r reply) (truth (WhenAssumed.spanned step))
             | done ↦ Some (keywords.turn m s r reply)
           ])
           (elim t [
@@ -115,6 +117,7 @@ module _ {K R : Type 0} (keywords : Keywords K R) (matcher : Matcher) (as' : Ass
             | mark i ↦ Ended2 n (with_mark same i marks) (keywords.turn m s r reply) (truth (list_any (same i) marks))
             | unmark ↦ Ended2 n (without_last marks) (keywords.turn m s r reply) no_reply
             | ecma text ↦ Ended2 n marks (keywords.turn m s r reply) (truth (WhenCompleted.is_ecma text))
+            | is_spanned step ↦ Ended2 n marks (keywords.turn m s r reply) (truth (WhenCompleted.spanned step))
             | done ↦ Some (keywords.turn m s r reply)
           ])
       go (ask q mode) rest h =
@@ -139,6 +142,7 @@ module _ {K R : Type 0} (keywords : Keywords K R) (matcher : Matcher) (as' : Ass
       go (mark i) rest h = rest (with_mark same i marks) (truth (list_any (same i) marks)) h
       go unmark rest h = rest (without_last marks) no_reply h
       go (ecma text) rest h = rest marks (truth (matcher.is_ecma text)) h
+      go (is_spanned step) rest h = rest marks (truth false) h
       go done rest h = refl
 
   module _ (absorbed : List Text) (laws : KeepsLaws keywords m absorbed) where

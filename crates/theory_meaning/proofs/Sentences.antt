@@ -149,9 +149,9 @@ module _ (v : Sense) (call : Call) (follows : Follows v) where
       none_each : none_has v (others ++ last ∷ []) ≡ true → EachAccepts v
       none_each all c =
           let (m, in_ms, ext) = covered v call c cover (λ a b e. absurd (cc e)) in
-          let same : v.says c ≡ v.says (completion_of m) = All-contains (λ x. Extends c x → v.says c ≡ v.says (completion_of x)) ms m (faithful v call follows ms cover wants_all c) in_ms ext in
+          let same : (v.says c).errors ≡ (v.says (completion_of m)).errors = All-contains (λ x. Extends c x → (v.says c).errors ≡ (v.says (completion_of x)).errors) ms m (faithful v call follows ms cover wants_all c) in_ms ext in
           let nil : is_nil (errors_of v m) ≡ true = All-contains (λ x. is_nil (errors_of v x) ≡ true) (others ++ last ∷ []) m (AllPass-from_list_all _ (others ++ last ∷ []) all) (subst (λ l. Contains l m) is in_ms) in
-          (follows.agrees c).1 (ap (λ o. o.errors) same ∙ nil_is (errors_of v m) nil)
+          (follows.agrees c).1 (same ∙ nil_is (errors_of v m) nil)
 
       some_refuse : none_has v (others ++ last ∷ []) ≡ false → SomeRefuses v
       some_refuse e = let (m, in_ms, nay) = refused_one (λ m. is_nil (errors_of v m)) (others ++ last ∷ []) e in

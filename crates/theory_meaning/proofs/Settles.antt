@@ -9,7 +9,7 @@ use Rattle.theory_definitions.specs.Reports.{Outcome, accepted}
 use Rattle.theory_definitions.specs.Parts.{Parts}
 use Rattle.theory_definitions.specs.Matching.{Completion, Matcher, matching}
 use Rattle.theory_definitions.specs.Keywords.{Keywords, Below, here, down, Question}
-use Rattle.theory_definitions.specs.Meaning.{subject, place_below, fault_error, reference_outcome, false_outcome, both}
+use Rattle.theory_definitions.specs.Meaning.{subject, place_below, fault_error, reference_outcome, false_outcome, both, kept}
 use Rattle.theory_definitions.specs.Laws.{IsPresent, steps_below}
 use Rattle.theory_definitions.specs.Guarded.{NodeEdge, node_child, NodeForm, node_keyword, node_reference, NodePart, NodePlan, node_always, node_never, node_these, Nodes, form_edges, node_edges, progress_below, guarded_within, node_at, node_asked, node_part, node_parts, node_outcome, yes_outcome}
 use Rattle.theory_meaning.specs.Numbered.{Ranked, left, subject_in, GuardedSettles}
@@ -17,6 +17,7 @@ use Rattle.theory_meaning.proofs.Reading.{Reads, reads_of}
 use Rattle.theory_meaning.proofs.Questions.{later, in_flat_map}
 use Rattle.theory_meaning.proofs.Falls.{below_falls, left_below, left_entered, left_lower}
 use Rattle.theory_meaning.proofs.Local.{same_outcome, each_asked}
+use Rattle.theory_meaning.proofs.SpansRead.{spans_same}
 use Rattle.std.proofs.lemmas.List.Elements.{All-contains}
 
 -- The element with a given number is in the list.
@@ -85,6 +86,7 @@ module _ {K R : Type 0} (keywords : Keywords K R) (matcher : Matcher) (instance 
         same_outcome
         (reads.holds_reads m s (matching matcher c) _ _ (each_asked _ qs (λ q is. ap (λ o. o.verdict) (each q is))))
         (ap (map (fault_error (node_at keywords matcher nodes (subject_in instance) i path p) name)) (reads.faults_read m s (matching matcher c) _ _ (each_asked _ qs each)))
+        (spans_same keywords m s (matching matcher c) _ _ (reads.spans_read m s) each)
     part_same name (node_reference e) h = ap (reference_outcome (node_at keywords matcher nodes (subject_in instance) i path p) name) (h e here ((zero, omega arith, refl), refl))
 
     parts_same : (xs : List (NodePart K)) → ((x : NodePart K) → Contains xs x → (e : NodeEdge) (b : Below) → FormAsks x.form e b → f e b ≡ g e b)
@@ -93,11 +95,11 @@ module _ {K R : Type 0} (keywords : Keywords K R) (matcher : Matcher) (instance 
     parts_same (x ∷ xs) h = ap₂ both (part_same x.name x.form (h x (zero, omega arith, refl))) (parts_same xs (λ y is. h y (later x xs y is)))
 
     plan_same : (o : NodePlan K) → nodes.entries i ≡ o → ((e : NodeEdge) (b : Below) → NodeAsks instance nodes i p e b → f e b ≡ g e b)
-        → ◌≡◌ {A = Outcome} (elim o [ node_always ↦ accepted | node_never ↦ false_outcome keywords.texts (node_at keywords matcher nodes (subject_in instance) i path p) (subject_in instance p) | node_these xs ↦ node_parts keywords matcher nodes (subject_in instance) c i path p f xs ])
-        (elim o [ node_always ↦ accepted | node_never ↦ false_outcome keywords.texts (node_at keywords matcher nodes (subject_in instance) i path p) (subject_in instance p) | node_these xs ↦ node_parts keywords matcher nodes (subject_in instance) c i path p g xs ])
+        → ◌≡◌ {A = Outcome} (elim o [ node_always ↦ accepted | node_never ↦ false_outcome keywords.texts (node_at keywords matcher nodes (subject_in instance) i path p) (subject_in instance p) | node_these xs ↦ kept (node_parts keywords matcher nodes (subject_in instance) c i path p f xs) ])
+        (elim o [ node_always ↦ accepted | node_never ↦ false_outcome keywords.texts (node_at keywords matcher nodes (subject_in instance) i path p) (subject_in instance p) | node_these xs ↦ kept (node_parts keywords matcher nodes (subject_in instance) c i path p g xs) ])
     plan_same node_always is h = refl
     plan_same node_never is h = refl
-    plan_same (node_these xs) is h = parts_same xs (λ x in_xs e b asks. h e b (record { edge = subst (λ o. Contains (node_edges o) e) (sym is) (in_flat_map (λ y. form_edges y.form) xs x e in_xs asks.0); present = asks.1 }))
+    plan_same (node_these xs) is h = ap kept (parts_same xs (λ x in_xs e b asks. h e b (record { edge = subst (λ o. Contains (node_edges o) e) (sym is) (in_flat_map (λ y. form_edges y.form) xs x e in_xs asks.0); present = asks.1 })))
 
     pub node_local : ((e : NodeEdge) (b : Below) → NodeAsks instance nodes i p e b → f e b ≡ g e b)
         → node_outcome keywords matcher nodes (subject_in instance) c i path p f ≡ node_outcome keywords matcher nodes (subject_in instance) c i path p g

@@ -6,7 +6,7 @@ use Rattle.std.proofs.lemmas.List.Elements.{All-nil, All-cons, All-append, All-c
 use Rattle.serde_json.specs.Data.{Data}
 use Rattle.theory_definitions.specs.Instance.{Place, Subject, Text}
 use Rattle.theory_definitions.specs.Matching.{Assumptions, Match, Matcher, completed, completion_of, finished, unfinished}
-use Rattle.theory_definitions.specs.Keywords.{Below, Keywords, MatchPoint, Marked, Mode, Question, Reply, Turn, ask, done, ecma, for_all, for_first, for_units, for_verdict, here, mark, match_text, no_reply, truth, unmark}
+use Rattle.theory_definitions.specs.Keywords.{Below, Keywords, MatchPoint, Marked, Mode, Question, Reply, Turn, ask, done, ecma, for_all, for_first, for_units, for_verdict, here, mark, match_text, no_reply, truth, unmark, is_spanned}
 use Rattle.theory_definitions.specs.Meaning.{Where, place_below}
 use Rattle.theory_definitions.specs.Runs.{Looked, Met, Run, Site, no_run, plan_met, reply_in, site_at, turns, with_mark, without_last}
 use Rattle.theory_definitions.specs.Cover.{Call, mode_of}
@@ -69,6 +69,7 @@ module _ (instance : Data) where
               | mark i ↦ MetIn n (with_mark same i marks) (keywords.turn m s r reply) (truth (list_any (same i) marks))
               | unmark ↦ MetIn n (without_last marks) (keywords.turn m s r reply) no_reply
               | ecma text ↦ MetIn n marks (keywords.turn m s r reply) (truth (matcher.is_ecma text))
+              | is_spanned step ↦ MetIn n marks (keywords.turn m s r reply) (truth false)
               | done ↦ []
             ])
         go (ask q mode) may rest = All-append MetInside ((run_of q).met mode) _
@@ -77,6 +78,7 @@ module _ (instance : Data) where
         go (mark i) h rest = rest (with_mark same i marks) (truth (list_any (same i) marks))
         go unmark h rest = rest (without_last marks) no_reply
         go (ecma text) h rest = rest marks (truth (matcher.is_ecma text))
+        go (is_spanned step) h rest = rest marks (truth false)
         go done h rest = All-nil MetInside
 
   -- ---- a plan

@@ -5,7 +5,7 @@ use Rattle.std.specs.List.{list_any}
 use Rattle.theory_definitions.specs.Instance.{Subject, Text}
 use Rattle.theory_definitions.specs.Reports.{Unit_, report_of}
 use Rattle.theory_definitions.specs.Matching.{Matching}
-use Rattle.theory_definitions.specs.Keywords.{Question, Marked, Mode, Answers, Reply, no_reply, truth, Turn, ask, match_text, mark, unmark, ecma, done, Answer, Keywords}
+use Rattle.theory_definitions.specs.Keywords.{Question, Marked, Mode, Answers, Reply, no_reply, truth, Turn, ask, match_text, mark, unmark, ecma, done, Answer, Keywords, is_spanned}
 use Rattle.theory_definitions.specs.Laws.{Agrees, AnsweredAlike, AlwaysAsksRightly, EndsWithin, KeepsLaws, answer_in, ended, IsRight, EndsRightly}
 use Rattle.theory_definitions.specs.Runs.{with_mark, without_last}
 use Rattle.theory_definitions.specs.Turns.{FunctionLaws, reply_to, marks_after, Standing, TurnLaws}
@@ -70,6 +70,7 @@ module _ {K R : Type 0} (keywords : Keywords K R) (m : K) (absorbed : List Text)
               | mark i ↦ Ended n (with_mark same i marks) (keywords.turn m s r reply) (truth (list_any (same i) marks))
               | unmark ↦ Ended n (without_last marks) (keywords.turn m s r reply) no_reply
               | ecma text ↦ Ended n marks (keywords.turn m s r reply) (truth (matches.is_ecma text))
+              | is_spanned step ↦ Ended n marks (keywords.turn m s r reply) (truth (matches.spanned step))
               | done ↦ Some (keywords.turn m s r reply)
             ]) (Some r'))
             × (keywords.answer r' ≡ end_of (at marks r reply))
@@ -82,6 +83,7 @@ module _ {K R : Type 0} (keywords : Keywords K R) (m : K) (absorbed : List Text)
               | mark i ↦ Ended n (with_mark same i marks) (keywords.turn m s r reply) (truth (list_any (same i) marks))
               | unmark ↦ Ended n (without_last marks) (keywords.turn m s r reply) no_reply
               | ecma text ↦ Ended n marks (keywords.turn m s r reply) (truth (matches.is_ecma text))
+              | is_spanned step ↦ Ended n marks (keywords.turn m s r reply) (truth (matches.spanned step))
               | done ↦ Some (keywords.turn m s r reply)
             ]) (Some (keywords.turn m s r reply))
             by done e = refl
@@ -90,11 +92,13 @@ module _ {K R : Type 0} (keywords : Keywords K R) (m : K) (absorbed : List Text)
             by (mark i) e = absurd (cc e)
             by unmark e = absurd (cc e)
             by (ecma text) e = absurd (cc e)
+            by (is_spanned step) e = absurd (cc e)
         go (ask q mode) is (inr w) rec = on (ask q mode) is (λ e. absurd (cc e)) w rec
         go (match_text b point) is (inr w) rec = on (match_text b point) is (λ e. absurd (cc e)) w rec
         go (mark i) is (inr w) rec = on (mark i) is (λ e. absurd (cc e)) w rec
         go unmark is (inr w) rec = on unmark is (λ e. absurd (cc e)) w rec
         go (ecma text) is (inr w) rec = on (ecma text) is (λ e. absurd (cc e)) w rec
+        go (is_spanned step) is (inr w) rec = on (is_spanned step) is (λ e. absurd (cc e)) w rec
 
     ends_rightly : (mode : Mode) → ((q : Question) → Agrees (a q)) → ((q : Question) → (report_of (u q)).valid ≡ (a q).verdict) → AnsweredAlike same a → EndsRightly keywords m s matches a u same mode
     unfolding Reaches
@@ -116,6 +120,7 @@ module _ {K R : Type 0} (keywords : Keywords K R) (m : K) (absorbed : List Text)
     holds_reads = functions.holds_reads;
     faults_read = functions.faults_read;
     units_read = functions.units_read;
+    spans_read = functions.spans_read;
     stands = functions.stands;
     passes = functions.passes;
   }

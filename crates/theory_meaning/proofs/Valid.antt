@@ -5,14 +5,14 @@ use Rattle.std.specs.Prelude.{Option, Some, None, filter, flat_map, nat_le, ◌�
 use Rattle.std.specs.List.{list_all}
 use Rattle.std.proofs.lemmas.List.Folds.{list_all-append, list_all-map}
 use Rattle.serde_json.specs.Data.{Data}
-use Rattle.theory_definitions.specs.Instance.{Text, Place}
-use Rattle.theory_definitions.specs.Reports.{Error, Unit_, report_of, Outcome, accepted}
+use Rattle.theory_definitions.specs.Instance.{Text, Place, Step}
+use Rattle.theory_definitions.specs.Reports.{Error, Unit_, report_of, Outcome, accepted, spans_nothing}
 use Rattle.theory_definitions.specs.Parts.{Parts}
 use Rattle.theory_definitions.specs.Making.{Request}
 use Rattle.theory_definitions.specs.Matching.{Completion, matching}
 use Rattle.theory_definitions.specs.Keywords.{Gives, Named, Question, all_valid}
 use Rattle.theory_definitions.specs.Plan.{Key, Edge, Part, Form, keyword, reference, Plan, always, never, these, plan, child, reference_edge}
-use Rattle.theory_definitions.specs.Meaning.{Where, at, both, subject, asked, part_outcome, parts_outcome, outcome_of, false_outcome}
+use Rattle.theory_definitions.specs.Meaning.{Where, at, both, subject, asked, part_outcome, parts_outcome, outcome_of, false_outcome, kept}
 use Rattle.theory_definitions.specs.Units.{Entry, PartUnits, given_units, part_units, entries_of, entry_units, unit_of, no_unit, in_order, is_type, keyword_unit, annotations_of, true_unit, false_unit, plan_unit}
 use Rattle.theory_definitions.specs.Laws.{Agrees, KeepsLaws}
 use Rattle.theory_meaning.proofs.Plans.{agrees_both, map_none}
@@ -101,8 +101,8 @@ entries_valid {xs} {o} valid =
 pub given_valid : (x : Where) (name : Text) (g : Gives) → (is_valid_unit (given_units x name g).0 && list_all held (given_units x name g).1) ≡ all_valid g
 given_valid x name g = ap (λ z. g.valid && z) (list_all-map held (λ (a : Named). (a.name, keyword_unit x a)) g.absorbed)
 
-pub mapped_agrees : {A : Type 0} (f : A → Error) (v : Bool) (xs : List A) → ((v ≡ true) ↔ (xs ≡ [])) → Agrees (record { verdict = v; errors = map f xs })
-mapped_agrees f v xs h = (λ e. ap (map f) (h.0 e), λ e. h.1 (map_none f xs e))
+pub mapped_agrees : {A : Type 0} (f : A → Error) (v : Bool) (xs : List A) (ss : Step → Bool) → ((v ≡ true) ↔ (xs ≡ [])) → Agrees (record { verdict = v; errors = map f xs; spans = ss })
+mapped_agrees f v xs ss h = (λ e. ap (map f) (h.0 e), λ e. h.1 (map_none f xs e))
 
 module _ {S K R : Type 0} (w : Parts S K R) (instance : Data) (absorbs : K → List Text) (laws : (m : K) → KeepsLaws w.keywords m (absorbs m))
     (c : Completion) (k : Key S) (path : Text) (p : Place) (g : Edge S → Place → Outcome) (u : Edge S → Place → Unit_)
@@ -122,12 +122,12 @@ module _ {S K R : Type 0} (w : Parts S K R) (instance : Data) (absorbs : K → L
   asked_valid name requests q = option_valid (child w k name requests q.child) _
 
   pub part_agrees : (name : Text) (form : Form K) → Agrees (part_outcome w instance c k path p g name form)
-  part_agrees name (keyword m requests absorbed) = mapped_agrees _ _ _ ((laws m).agree (subject w instance p) (matching w.matcher c) (asked w instance accepted k name requests p g) (asked_agrees name requests))
-  part_agrees name (reference kind text) = mapped_agrees _ _ _ (option_agrees (reference_edge w k name kind text) p)
+  part_agrees name (keyword m requests absorbed) = mapped_agrees _ _ _ spans_nothing ((laws m).agree (subject w instance p) (matching w.matcher c) (asked w instance accepted k name requests p g) (asked_agrees name requests))
+  part_agrees name (reference kind text) = mapped_agrees _ _ _ spans_nothing (option_agrees (reference_edge w k name kind text) p)
 
   parts_agree : (xs : List (Part K)) → Agrees (parts_outcome w instance c k path p g xs)
   parts_agree [] = (λ e. refl, λ e. refl)
-  parts_agree (x ∷ xs) = agrees_both _ _ (part_agrees x.name x.form) (parts_agree xs)
+  parts_agree (x ∷ xs) = agrees_both (part_outcome w instance c k path p g x.name x.form) (parts_outcome w instance c k path p g xs) (part_agrees x.name x.form) (parts_agree xs)
 
   pub form_valid : (name : Text) (form : Form K) → EntryValid (part_units w instance c k path p u name form) (part_outcome w instance c k path p g name form)
   form_valid name (keyword m requests absorbed) =
@@ -146,7 +146,7 @@ module _ {S K R : Type 0} (w : Parts S K R) (instance : Data) (absorbs : K → L
   pub node_agrees : Agrees (outcome_of w instance c k path p g)
   node_agrees = go (plan w k)
     where
-      go : (o : Plan K) → Agrees (elim o [ always ↦ accepted | never ↦ false_outcome w.keywords.texts (at w instance k path p) (subject w instance p) | these xs ↦ parts_outcome w instance c k path p g xs ])
+      go : (o : Plan K) → Agrees (elim o [ always ↦ accepted | never ↦ false_outcome w.keywords.texts (at w instance k path p) (subject w instance p) | these xs ↦ kept (parts_outcome w instance c k path p g xs) ])
       go always = (λ e. refl, λ e. refl)
       go never = (λ e. absurd (cc e), λ e. absurd (cc e))
       go (these xs) = parts_agree xs
@@ -156,7 +156,7 @@ module _ {S K R : Type 0} (w : Parts S K R) (instance : Data) (absorbs : K → L
     where
       go : (o : Plan K) → (report_of (elim o
           [ always ↦ true_unit (at w instance k path p) | never ↦ false_unit w.keywords.texts (at w instance k path p) (subject w instance p) | these xs ↦ plan_unit (at w instance k path p) (annotations_of w k) (entries_of w instance c k path p u xs) ])).valid
-          ≡ (let x : Outcome = elim o [ always ↦ accepted | never ↦ false_outcome w.keywords.texts (at w instance k path p) (subject w instance p) | these xs ↦ parts_outcome w instance c k path p g xs ] in x.verdict)
+          ≡ (let x : Outcome = elim o [ always ↦ accepted | never ↦ false_outcome w.keywords.texts (at w instance k path p) (subject w instance p) | these xs ↦ kept (parts_outcome w instance c k path p g xs) ] in x.verdict)
       go always = refl
       go never = refl
       go (these xs) = entries_valid (parts_valid xs)

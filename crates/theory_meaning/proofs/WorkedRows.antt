@@ -9,10 +9,10 @@ use Rattle.percent_encoding.specs.Percent.{percent_decode}
 use Rattle.serde_json.proofs.OnLiterals.{serde_json_on_literals}
 use Rattle.theory_definitions.specs.Instance.{Text}
 use Rattle.theory_definitions.specs.Instance.{a_value}
-use Rattle.theory_definitions.specs.Meaning.{at, both, fault_error, subject}
+use Rattle.theory_definitions.specs.Meaning.{at, both, fault_error, subject, kept}
 use Rattle.theory_definitions.specs.Guarded.{guarded_sense}
 use Rattle.serde_json.specs.Data.{number, unsigned}
-use Rattle.theory_definitions.specs.Reports.{Outcome, accepted}
+use Rattle.theory_definitions.specs.Reports.{Outcome, accepted, spans_nothing}
 use Rattle.theory_definitions.specs.Drafts.{draft_2020_12}
 use Rattle.theory_definitions.specs.Matching.{Completion, all_match, completed}
 use Rattle.theory_definitions.specs.Keywords.{Mode, for_units, for_verdict}
@@ -101,7 +101,7 @@ abbrev either_holds : Bool → Bool
 either_holds b = (b && true) || ((not ((b && true) && true) && true) || false)
 
 abbrev either_says : Bool → Outcome
-either_says b = both (record { verdict = either_holds b; errors = map (fault_error (at (worked_parts (Rows.pattern ∷ []) Rows.either_schema) Rows.abc (root_of (Rows.pattern ∷ []) Rows.either_schema) [] []) (codes "anyOf")) (own_faults (is_any_of 2) (a_value Rows.abc) (either_holds b)) }) accepted
+either_says b = kept (both (record { verdict = either_holds b; errors = map (fault_error (at (worked_parts (Rows.pattern ∷ []) Rows.either_schema) Rows.abc (root_of (Rows.pattern ∷ []) Rows.either_schema) [] []) (codes "anyOf")) (own_faults (is_any_of 2) (a_value Rows.abc) (either_holds b)); spans = spans_nothing }) accepted)
 
 either_always : (b : Bool) → either_says b ≡ accepted
 either_always true = refl

@@ -3,7 +3,7 @@
 use Rattle.std.specs.Prelude.{Bool, List, None, Some, [], codes, false, suc, true, zero, ℕ, ◌≡◌, ◌≤◌, ◌∷◌}
 use Rattle.serde_json.specs.Data.{Data, Members, array, item, member, no_items, no_members, number, object, unsigned}
 use Rattle.theory_definitions.specs.Instance.{Text, to_member}
-use Rattle.theory_definitions.specs.Reports.{Error, Outcome, accepted}
+use Rattle.theory_definitions.specs.Reports.{Error, Outcome, accepted, spans_nothing}
 use Rattle.theory_definitions.specs.Matching.{Assumptions, Completion}
 use Rattle.theory_definitions.specs.Plan.{Key, absolute_of, child, plan, these}
 use Rattle.theory_definitions.specs.Making.{compile}
@@ -26,7 +26,7 @@ abbrev pub AlwaysSays : List Text → Data → Data → ℕ → Outcome → Type
 AlwaysSays unfinished_ones schema instance deep outcome = (n : ℕ) → deep ≤ n → (c : Completion) → (sense unfinished_ones schema instance n).says c ≡ outcome
 
 abbrev pub refused_by : Error → Outcome
-refused_by e = record { verdict = false; errors = e ∷ [] }
+refused_by e = record { verdict = false; errors = e ∷ []; spans = spans_nothing }
 
 -- For each schema, `root_of` is the key of its root according to the definitions.
 abbrev pub RootsAreRoots : Type 0

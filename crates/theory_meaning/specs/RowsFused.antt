@@ -103,6 +103,8 @@ abbrev pub fused_words : Keywords Fused ⊤
 fused_words = record {
   texts = true;
   may_ask = fused_questions;
+  spans = λ k x. [];
+  is_told = λ k. false;
   holds = fused_holds;
   faults = fused_faults;
   units = fused_units;

@@ -201,6 +201,8 @@ abbrev pub words : Keywords Word Running
 words = record {
   texts = true;
   may_ask = questions_of;
+  spans = λ k x. [];
+  is_told = λ k. false;
   holds = word_holds;
   faults = word_faults;
   units = word_units;
