@@ -7,7 +7,7 @@ use Rattle.std.proofs.lemmas.List.Elements.{All-append, All-cons, All-nil, Conta
 use Rattle.theory_definitions.specs.Instance.{Subject}
 use Rattle.theory_definitions.specs.Reports.{Unit_, report_of}
 use Rattle.theory_definitions.specs.Matching.{Matching}
-use Rattle.theory_definitions.specs.Keywords.{Answer, Answers, Fault, Gives, Marked, Question, Reply, Turn, all_valid, ask, done, ecma, for_all, for_first, for_units, for_verdict, mark, match_text, own, unmark}
+use Rattle.theory_definitions.specs.Keywords.{Answer, Answers, Fault, Gives, Marked, Question, Reply, Turn, all_valid, ask, done, ecma, for_all, for_first, for_units, for_verdict, mark, match_text, own, unmark, is_spanned}
 use Rattle.theory_definitions.specs.Keywords as spec
 use Rattle.theory_definitions.specs.Laws.{AsksRightly, IsPresent, IsRight, PassesUnchanged, StandsInside, answer_in, first_fault, steps_below}
 use Rattle.theory_definitions.specs.Turns.{FunctionLaws, Standing, TurnLaws, marks_after, next, reply_to, step_at, turned}
@@ -44,6 +44,7 @@ module _ (texts : Bool) (m : BasicShape) where
   bench_asks s (mark i) h = tt
   bench_asks s unmark h = tt
   bench_asks s (ecma text) h = tt
+  bench_asks s (is_spanned step) h = tt
   bench_asks s done h = tt
 
   bench_right : (s : Subject) (matches : Matching) (a : Answers) (u : Question → Unit_) (same : Marked → Marked → Bool) (mode' : spec.Mode) (answer : Answer)
@@ -77,6 +78,7 @@ module _ (texts : Bool) (m : BasicShape) where
   same_after x (mark i) = refl
   same_after x unmark = refl
   same_after x (ecma text) = refl
+  same_after x (is_spanned step) = refl
   same_after x done = refl
 
   bench_turns : TurnLaws (fused_words texts) (of_bench m) [] (fused_left (of_bench m)) (fused_can_be texts (of_bench m)) (fused_ends texts (of_bench m)) (fused_fits texts (of_bench m))
@@ -100,6 +102,7 @@ module _ (texts : Bool) (m : BasicShape) where
     holds_reads = laws.holds_reads;
     faults_read = laws.faults_read;
     units_read = laws.units_read;
+    spans_read = laws.spans_read;
     stands = laws.stands;
     passes = laws.passes;
   }
@@ -320,6 +323,7 @@ array_functions texts k = record {
   faults_read = λ s matches a b h. ap (λ fs. errors texts k s ++ fs) (way_faults_read (passes_on (questions_of k s)) matches a b h);
   units_read = λ s matches a b h. ap (λ g. record (first_gives texts k s) { valid = (first_gives texts k s).valid && g.valid; children = (first_gives texts k s).children ++ g.children })
       (way_units_read (passes_on (questions_of k s)) matches a b h);
+  spans_read = λ s. All-nil _;
   stands = λ s matches a. All-append (StandsInside s (absorbs k)) (errors texts k s) _ (all_errors texts s k) (way_stands_inside (passes_on (questions_of k s)) matches s (absorbs k) a);
   passes = λ s matches a. All-append (PassesUnchanged a (questions_of k s)) (errors texts k s) _ (all_own texts a (questions_of k s) s k) (way_passes (passes_on (questions_of k s)) matches a);
 }

@@ -3,11 +3,11 @@
 -- that absorbs two others has the units of its items in its own unit, and the units of the two
 -- others beside it.
 use Rattle.std.specs.List.{list_all}
-use Rattle.std.specs.Prelude.{Bool, List, [], map, ℕ, ◌&&◌, ◌++◌, ◌+◌}
+use Rattle.std.specs.Prelude.{Bool, List, [], map, ℕ, ◌&&◌, ◌++◌, ◌+◌, false}
 use Rattle.theory_definitions.specs.Instance.{Subject}
 use Rattle.theory_definitions.specs.Reports.{Unit_, report_of}
 use Rattle.theory_definitions.specs.Matching.{Matching}
-use Rattle.theory_definitions.specs.Keywords.{Answer, Answers, Fault, Gives, Keywords, Mode, Question, Reply, Turn}
+use Rattle.theory_definitions.specs.Keywords.{Answer, Answers, Fault, Gives, Keywords, Mode, Question, Reply, Turn, Span}
 use Rattle.theory_definitions.specs.Turns.{Standing}
 use Rattle.schema_traits.specs.KeywordViews.{fresh}
 use Rattle.keyword_authoring.specs.WayRuns.{end_at, fits_at}
@@ -36,6 +36,16 @@ module _ (texts : Bool) where
   abbrev asked : FusedShape → Subject → List Question
   asked (of_bench m) s = (bench.words texts).may_ask m s
   asked (of_array k) s = questions_of k s
+
+  -- what a keyword spans
+  abbrev spanning : FusedShape → Subject → List Span
+  spanning (of_bench m) s = (bench.words texts).spans m s
+  spanning (of_array k) s = []
+
+  -- whether a keyword is told what the others span
+  abbrev told : FusedShape → Bool
+  told (of_bench m) = (bench.words texts).is_told m
+  told (of_array k) = false
 
   -- whether a keyword accepts
   abbrev held : FusedShape → Subject → Matching → (Question → Bool) → Bool
@@ -72,6 +82,8 @@ module _ (texts : Bool) where
   fused_words = record {
     texts = texts;
     may_ask = asked;
+    spans = spanning;
+    is_told = told;
     holds = held;
     faults = faulted;
     units = given;

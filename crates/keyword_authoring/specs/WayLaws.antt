@@ -3,7 +3,7 @@
 -- that exists.
 use Rattle.std.proofs.Common.{◌≡◌, ◌∙◌, ℕ, ◌+◌, ◌<◌, ◌⊎◌, ◌∷◌, [], List, Bool, true, false, Option, Some, None, refl, ap, subst, inl, inr, arith, drop, zero, suc}
 use Rattle.std.specs.Prelude.{All, Contains, not, ◌++◌}
-use Rattle.std.proofs.lemmas.List.Elements.{Contains-append_right}
+use Rattle.std.proofs.lemmas.List.Elements.{Contains-append_right, All-nil}
 use Rattle.theory_definitions.specs.Instance.{Subject}
 use Rattle.theory_definitions.specs.Reports.{Unit_, report_of}
 use Rattle.theory_definitions.specs.Matching.{Matching, Pair}
@@ -166,6 +166,7 @@ module _ {M : Type 0} (way : Bool → M → Subject → Way) where
     holds_reads = λ s matches a b h. way_holds_reads (way texts m s) matches a b h;
     faults_read = λ s matches a b h. way_faults_read (way texts m s) matches a b h;
     units_read = λ s matches a b h. way_units_read (way texts m s) matches a b h;
+    spans_read = λ s. All-nil _;
     stands = λ s matches a. way_stands_inside (way texts m s) matches s [] a;
     passes = λ s matches a. way_passes (way texts m s) matches a;
   }

@@ -18,6 +18,8 @@ module _ {M : Type 0} (way : Bool → M → Subject → Way) where
   words_of texts = record {
     texts = texts;
     may_ask = λ m s. questions (way texts m s);
+    spans = λ m s. [];
+    is_told = λ m. false;
     holds = λ m s matches accepts. way_holds (way texts m s) matches accepts;
     faults = λ m s matches answers. way_faults (way texts m s) matches answers;
     units = λ m s matches unit_at. way_units (way texts m s) matches unit_at;

@@ -4,7 +4,7 @@ use Rattle.std.specs.Prelude.{Contains}
 use Rattle.theory_definitions.specs.Instance.{Subject, Text}
 use Rattle.theory_definitions.specs.Reports.{Unit_}
 use Rattle.theory_definitions.specs.Matching.{Matching}
-use Rattle.theory_definitions.specs.Keywords.{Answer, Answers, Keywords, Marked, Mode, Question, Reply, Turn, ask, done, ecma, for_all, for_first, for_units, for_verdict, mark, match_text, unmark}
+use Rattle.theory_definitions.specs.Keywords.{Answer, Answers, Keywords, Marked, Mode, Question, Reply, Turn, ask, done, ecma, for_all, for_first, for_units, for_verdict, mark, match_text, unmark, is_spanned}
 use Rattle.theory_definitions.specs.Laws.{AsksRightly, IsRight, first_fault}
 use Rattle.theory_definitions.specs.Turns.{FunctionLaws, Standing, TurnLaws, marks_after, next, reply_to, step_at, turned}
 use Rattle.keyword_joins.specs.BothWords.{both_can_be, both_ends, both_fits, both_left, both_words, seen}
@@ -21,6 +21,7 @@ module _ {K L Q R : Type 0} (one : Keywords K Q) (k : K) (other : Keywords L R) 
   same_asks same absorbed (mark i) h = tt
   same_asks same absorbed unmark h = tt
   same_asks same absorbed (ecma text) h = tt
+  same_asks same absorbed (is_spanned step) h = tt
   same_asks same absorbed done h = tt
 
   module _ (matches : Matching) (answers : Answers) (unit_at : Question → Unit_) (same : Marked → Marked → Bool) where
@@ -34,6 +35,7 @@ module _ {K L Q R : Type 0} (one : Keywords K Q) (k : K) (other : Keywords L R) 
     same_reply marks (mark i) = refl
     same_reply marks unmark = refl
     same_reply marks (ecma text) = refl
+    same_reply marks (is_spanned step) = refl
     same_reply marks done = refl
 
     pub same_marks : (marks : List Marked) (t : Turn) → marks_after one k s matches answers unit_at same marks t ≡ marks_after other l s matches answers unit_at same marks t
@@ -42,6 +44,7 @@ module _ {K L Q R : Type 0} (one : Keywords K Q) (k : K) (other : Keywords L R) 
     same_marks marks (mark i) = refl
     same_marks marks unmark = refl
     same_marks marks (ecma text) = refl
+    same_marks marks (is_spanned step) = refl
     same_marks marks done = refl
 
     pub same_right : one.holds k s matches ≡ other.holds l s matches → one.faults k s matches ≡ other.faults l s matches → one.units k s matches ≡ other.units l s matches
@@ -200,6 +203,7 @@ both_function_laws one other laws_one laws_other texts (First m) = let laws = la
   holds_reads = laws.holds_reads;
   faults_read = laws.faults_read;
   units_read = laws.units_read;
+  spans_read = laws.spans_read;
   stands = laws.stands;
   passes = laws.passes;
 }
@@ -210,6 +214,7 @@ both_function_laws one other laws_one laws_other texts (Second m) = let laws = l
   holds_reads = laws.holds_reads;
   faults_read = laws.faults_read;
   units_read = laws.units_read;
+  spans_read = laws.spans_read;
   stands = laws.stands;
   passes = laws.passes;
 }

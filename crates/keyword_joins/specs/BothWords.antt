@@ -5,7 +5,7 @@ use Rattle.std.specs.Prelude.{Bool, List, ℕ}
 use Rattle.theory_definitions.specs.Instance.{Subject}
 use Rattle.theory_definitions.specs.Reports.{Unit_}
 use Rattle.theory_definitions.specs.Matching.{Matching}
-use Rattle.theory_definitions.specs.Keywords.{Answer, Answers, Fault, Gives, Keywords, Mode, Question, Reply, Turn, done}
+use Rattle.theory_definitions.specs.Keywords.{Answer, Answers, Fault, Gives, Keywords, Mode, Question, Reply, Turn, done, Span}
 use Rattle.theory_definitions.specs.Turns.{Standing}
 use Rattle.keyword_joins.specs.declared.both.Both.{Both}
 use Rattle.keyword_joins.specs.declared.both.Both.TheVariants.{First, Second}
@@ -21,6 +21,14 @@ module _ {M N Q R : Type 0} (one : Keywords M (Q × Answer)) (other : Keywords N
   abbrev asked : Both M N → Subject → List Question
   asked (First m) s = one.may_ask m s
   asked (Second m) s = other.may_ask m s
+
+  abbrev spanning : Both M N → Subject → List Span
+  spanning (First m) s = one.spans m s
+  spanning (Second m) s = other.spans m s
+
+  abbrev told : Both M N → Bool
+  told (First m) = one.is_told m
+  told (Second m) = other.is_told m
 
   abbrev held : Both M N → Subject → Matching → (Question → Bool) → Bool
   held (First m) s matches accepts = one.holds m s matches accepts
@@ -58,6 +66,8 @@ module _ {M N Q R : Type 0} (one : Keywords M (Q × Answer)) (other : Keywords N
   joined texts = record {
     texts = texts;
     may_ask = asked;
+    spans = spanning;
+    is_told = told;
     holds = held;
     faults = faulted;
     units = given;

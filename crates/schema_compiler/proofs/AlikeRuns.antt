@@ -7,7 +7,7 @@ use Rattle.theory_definitions.specs.Instance.{Place, Subject, Text}
 use Rattle.theory_definitions.specs.Reports.{Outcome, Unit_, accepted}
 use Rattle.theory_definitions.specs.Matching.{Assumptions, Completion, Matcher, completion_of, matching}
 use Rattle.theory_definitions.specs.Keywords.{Below, Keywords, Marked, Mode, a_child, a_reservation, here}
-use Rattle.theory_definitions.specs.Meaning.{both, false_outcome, keyword_outcome, reference_outcome}
+use Rattle.theory_definitions.specs.Meaning.{both, false_outcome, keyword_outcome, reference_outcome, kept}
 use Rattle.theory_definitions.specs.Units.{false_unit, keyword_units, no_unit, plan_unit, reference_units, true_unit}
 use Rattle.theory_definitions.specs.Runs.{Met, Run, keyword_met, no_run, plan_met}
 use Rattle.theory_definitions.specs.Cover.{mode_of}
@@ -56,8 +56,8 @@ module _ {K R : Type 0} (keywords : Keywords K R) (matcher : Matcher) (nodes nod
     parts_same (x ∷ xs) [] h = absurd h
 
     plan_outcome : (x x' : NodePlan K) → AlikePlan x x'
-        → ◌≡◌ {A = Outcome} (elim x [ node_always ↦ accepted | node_never ↦ false_outcome keywords.texts (node_at keywords matcher nodes subject_of i path p) (subject_of p) | node_these xs ↦ node_parts keywords matcher nodes subject_of c i path p go xs ])
-        (elim x' [ node_always ↦ accepted | node_never ↦ false_outcome keywords.texts (node_at keywords matcher nodes' subject_of i path p) (subject_of p) | node_these xs ↦ node_parts keywords matcher nodes' subject_of c i path p go xs ])
+        → ◌≡◌ {A = Outcome} (elim x [ node_always ↦ accepted | node_never ↦ false_outcome keywords.texts (node_at keywords matcher nodes subject_of i path p) (subject_of p) | node_these xs ↦ kept (node_parts keywords matcher nodes subject_of c i path p go xs) ])
+        (elim x' [ node_always ↦ accepted | node_never ↦ false_outcome keywords.texts (node_at keywords matcher nodes' subject_of i path p) (subject_of p) | node_these xs ↦ kept (node_parts keywords matcher nodes' subject_of c i path p go xs) ])
     plan_outcome node_always node_always h = refl
     plan_outcome node_never node_never h = let place = at_same i path p in λ j. false_outcome keywords.texts (place j) (subject_of p)
     plan_outcome (node_these xs) (node_these xs') h = parts_same xs xs' h

@@ -34,6 +34,8 @@ abbrev pub no_keywords : {K : Type 0} → Keywords K (Unit {0})
 no_keywords = record {
   texts = true;
   may_ask = λ m s. [];
+  spans = λ m s. [];
+  is_told = λ m. false;
   holds = λ m s matching ask. true;
   faults = λ m s matching answers. [];
   units = λ m s matching ask. record { valid = true; children = []; annotations = None; errors = []; absorbed = [] };

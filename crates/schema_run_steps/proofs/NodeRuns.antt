@@ -1,13 +1,13 @@
 -- What each step of a node's run keeps: edges, children, references, entries and leaves.
-use Rattle.std.proofs.Common.{◌≡◌, ◌∙◌, ℕ, zero, suc, ◌<◌, ◌≤◌, ◌==◌, ◌&&◌, Bool, true, false, List, [], ◌∷◌, ◌++◌, map, refl, sym, ap, subst, arith, append_assoc, append-nil, true≢false}
+use Rattle.std.proofs.Common.{◌≡◌, ◌||◌, ◌∙◌, ℕ, zero, suc, ◌<◌, ◌≤◌, ◌==◌, ◌&&◌, Bool, true, false, List, [], ◌∷◌, ◌++◌, map, refl, sym, ap, subst, arith, append_assoc, append-nil, true≢false}
 use Rattle.std.specs.Prelude.{All, Contains, Option, Some, None, option_map, option_and_then, slice_get, unwrap_or, is_some, not, ◌↔◌}
 use Rattle.std.specs.List.{list_any}
 use Rattle.serde_json.specs.Data.{Data, null}
 use Rattle.theory_definitions.specs.Instance.{Place, Step, Subject, Text, a_value, after_step, subject_at}
 use Rattle.theory_definitions.specs.Reports.{Error, Outcome, accepted}
 use Rattle.theory_definitions.specs.Matching.{Completion, Matcher, matching}
-use Rattle.theory_definitions.specs.Keywords.{Answers, Below, Keywords, Mode, Question, down, first_of_it, for_all, for_first, for_units, for_verdict, here, truth}
-use Rattle.theory_definitions.specs.Meaning.{both, fault_error, false_outcome}
+use Rattle.theory_definitions.specs.Keywords.{Answers, Below, Keywords, Mode, Question, down, first_of_it, for_all, for_first, for_units, for_verdict, here, truth, all_of_it}
+use Rattle.theory_definitions.specs.Meaning.{both, fault_error, false_outcome, kept}
 use Rattle.theory_definitions.specs.Pointer.{joined}
 use Rattle.theory_definitions.specs.Runs.{first_error}
 use Rattle.theory_definitions.specs.Laws.{Agrees}
@@ -37,15 +37,23 @@ stands_in root p s e = ap (λ o. unwrap_or o (a_value null)) e
 -- ---- replies of both, and of a yes
 
 both-assoc : (a b c : Outcome) → both (both a b) c ≡ both a (both b c)
-both-assoc a b c = λ i. record { verdict = and-assoc a.verdict b.verdict c.verdict i; errors = append_assoc a.errors b.errors c.errors i }
+both-assoc a b c = λ i. record { verdict = and-assoc a.verdict b.verdict c.verdict i; errors = append_assoc a.errors b.errors c.errors i; spans = λ step. or-assoc (a.spans step) (b.spans step) (c.spans step) i }
   where
+    or-assoc : (a b c : Bool) → ((a || b) || c) ≡ (a || (b || c))
+    or-assoc true b c = refl
+    or-assoc false b c = refl
+
     and-assoc : (a b c : Bool) → ((a && b) && c) ≡ (a && (b && c))
     and-assoc true b c = refl
     and-assoc false b c = refl
 
 both-accepted : (a : Outcome) → both a accepted ≡ a
-both-accepted a = λ i. record { verdict = and-true a.verdict i; errors = append-nil a.errors i }
+both-accepted a = λ i. record { verdict = and-true a.verdict i; errors = append-nil a.errors i; spans = λ step. or-false (a.spans step) i }
   where
+    or-false : (a : Bool) → (a || false) ≡ a
+    or-false true = refl
+    or-false false = refl
+
     and-true : (a : Bool) → (a && true) ≡ a
     and-true true = refl
     and-true false = refl
@@ -68,8 +76,22 @@ settled_stays for_units a b h = absurd (true≢false (sym h))
 no_error : (root : Data) (r : code.Reply) → errors_in r ≡ [] → All (BorrowsItsPlace root) (errors_in r)
 no_error root r e = subst (All (BorrowsItsPlace root)) (sym e) (λ i d l. absurd (omega arith))
 
-pub replies_accepted : (x : Reading) (mode : Mode) (r : code.Reply) (o : Outcome) → ((texts : Bool) → reply_of texts r ≡ reply_by mode accepted) → errors_in r ≡ [] → o ≡ accepted → Replies x mode r o
-replies_accepted x mode r o a n e = record { same = a x.texts ∙ ap (reply_by mode) (sym e); borrows = no_error x.root r n }
+-- a mode sees the verdict and the errors alone
+reply_seen : (mode : Mode) (o p : Outcome) → o.verdict ≡ p.verdict → o.errors ≡ p.errors → reply_by mode o ≡ reply_by mode p
+reply_seen for_verdict o p v e = ap truth v
+reply_seen for_first o p v e = ap (λ es. first_of_it (first_error es)) e
+reply_seen for_all o p v e = ap all_of_it e
+reply_seen for_units o p v e = refl
+
+-- nor what a plan spans
+plan_seen : {K : Type 0} (mode : Mode) (plan : NodePlan K) (a b : Outcome) (f : List (NodePart K) → Outcome)
+    → reply_by mode (elim plan [ node_always ↦ a | node_never ↦ b | node_these xs ↦ f xs ]) ≡ reply_by mode (elim plan [ node_always ↦ a | node_never ↦ b | node_these xs ↦ kept (f xs) ])
+plan_seen mode node_always a b f = refl
+plan_seen mode node_never a b f = refl
+plan_seen mode (node_these xs) a b f = reply_seen mode (f xs) (kept (f xs)) refl refl
+
+pub replies_accepted : (x : Reading) (mode : Mode) (r : code.Reply) (o : Outcome) → ((texts : Bool) → reply_of texts r ≡ reply_by mode accepted) → errors_in r ≡ [] → o.verdict ≡ true → o.errors ≡ [] → Replies x mode r o
+replies_accepted x mode r o a n v e = record { same = a x.texts ∙ sym (reply_seen mode o accepted v e); borrows = no_error x.root r n }
 
 pub replies_same : (x : Reading) (mode : Mode) (r : code.Reply) (o o' : Outcome) → o ≡ o' → Replies x mode r o → Replies x mode r o'
 replies_same x mode r o o' e h = subst (Replies x mode r) e h
@@ -104,7 +126,8 @@ module _ {K R : Type 0} (words : Bool → Keywords K R) (is_whole : K → Bool) 
     module _ (mode : Mode) (path : Text) (p : Place) (r : code.Reply) where
       pub edge_busy : e.guarded ≡ true → list_any (λ i. i == e.node) busy ≡ true → ((texts : Bool) → reply_of texts r ≡ reply_by mode accepted) → errors_in r ≡ [] → EdgeReplies words is_whole nodes count w mode path p busy s e r
       edge_busy g t a n x reads l =
-          replies_accepted x mode r _ a n (busy_case e.guarded (list_any (λ i. i == e.node) busy) (deep words nodes x e.node (path ++ e.path) p busy) (deep words nodes x e.node (path ++ e.path) p (e.node ∷ busy)) accepted g t)
+          let is = busy_case e.guarded (list_any (λ i. i == e.node) busy) (deep words nodes x e.node (path ++ e.path) p busy) (deep words nodes x e.node (path ++ e.path) p (e.node ∷ busy)) accepted g t in
+          replies_accepted x mode r _ a n (ap (λ (o : Outcome). o.verdict) is) (ap (λ (o : Outcome). o.errors) is)
 
       pub edge_entered : e.guarded ≡ true → list_any (λ i. i == e.node) busy ≡ false → NodeReplies words is_whole nodes count w mode (path ++ e.path) p (e.node ∷ busy) s e.node r → EdgeReplies words is_whole nodes count w mode path p busy s e r
       edge_entered g t h x reads l =
@@ -181,13 +204,13 @@ module _ {K R : Type 0} (words : Bool → Keywords K R) (is_whole : K → Bool) 
         go zero l reads = absurd (omega arith)
         go (suc d) l reads =
             let answer = (subst PlanReplies (sym e) h) (record x { depth = d }) (record { stands = reads.stands; tells = reads.tells; matcher = reads.matcher; completes = reads.completes }) (omega arith) in
-            record { same = answer.same; borrows = answer.borrows }
+            record { same = answer.same ∙ plan_seen mode (nodes.entries i) accepted _ _; borrows = answer.borrows }
 
   -- ---- entries
 
   module _ (mode : Mode) (x : Reading) where
     pub start_entries : (r : code.Reply) (o : Outcome) → ((texts : Bool) → reply_of texts r ≡ reply_by mode accepted) → errors_in r ≡ [] → (a : Outcome) × Replies x mode r a × (both a o ≡ o)
-    start_entries r o a n = (accepted, replies_accepted x mode r accepted a n refl, refl)
+    start_entries r o a n = (accepted, replies_accepted x mode r accepted a n refl refl, refl)
 
     pub one_entry : (found more r : code.Reply) (now this rest all : Outcome) → now ≡ both this rest → ((texts : Bool) → Joins (reply_of texts found) (reply_of texts more) (reply_of texts r))
         → ((root : Data) → All (BorrowsItsPlace root) (errors_in found) → All (BorrowsItsPlace root) (errors_in more) → All (BorrowsItsPlace root) (errors_in r))
@@ -251,22 +274,22 @@ module _ {K R : Type 0} (words : Bool → Keywords K R) (nodes : Nodes K)
 
     agrees_parts : (xs : List (NodePart K)) → Agrees (node_parts (words x.texts) x.matcher nodes (subject_in x.root) x.completion i path p go xs)
     agrees_parts [] = agrees_accepted
-    agrees_parts (y ∷ ys) = agrees_both _ _ (agrees_form y.name y.form) (agrees_parts ys)
+    agrees_parts (y ∷ ys) = agrees_both (node_part (words x.texts) x.matcher nodes (subject_in x.root) x.completion i path p go y.name y.form) (node_parts (words x.texts) x.matcher nodes (subject_in x.root) x.completion i path p go ys) (agrees_form y.name y.form) (agrees_parts ys)
 
-    agrees_plan : (plan : NodePlan K) → Agrees (elim plan [ node_always ↦ accepted | node_never ↦ false_outcome (words x.texts).texts (node_at (words x.texts) x.matcher nodes (subject_in x.root) i path p) (subject_in x.root p) | node_these xs ↦ node_parts (words x.texts) x.matcher nodes (subject_in x.root) x.completion i path p go xs ])
+    agrees_plan : (plan : NodePlan K) → Agrees (elim plan [ node_always ↦ accepted | node_never ↦ false_outcome (words x.texts).texts (node_at (words x.texts) x.matcher nodes (subject_in x.root) i path p) (subject_in x.root p) | node_these xs ↦ kept (node_parts (words x.texts) x.matcher nodes (subject_in x.root) x.completion i path p go xs) ])
     agrees_plan node_always = agrees_accepted
     agrees_plan node_never = (λ e. absurd (true≢false (sym e)), λ e. absurd (let q : ⊥ = cc in q))
     agrees_plan (node_these xs) = agrees_parts xs
 
   pub agrees_deep : (n i : ℕ) (path : Text) (p : Place) (busy : List ℕ) → Agrees (guarded_within yes_outcome (node_says words nodes x) n i path p busy)
   agrees_deep zero i path p busy = agrees_accepted
-  agrees_deep (suc n) i path p busy = agrees_plan _ (λ e b. agrees_edge _ (agrees_deep n) path p busy e b) i path p (nodes.entries i)
+  agrees_deep (suc n) i path p busy = agrees_plan _ (λ e b. agrees_edge (guarded_within yes_outcome (node_says words nodes x) n) (agrees_deep n) path p busy e b) i path p (nodes.entries i)
 
   pub agrees_answers : (path : Text) (p : Place) (busy : List ℕ) (es : Children) (q : Question) → Agrees (child_says words nodes x path p busy es q)
-  agrees_answers path p busy es q = agrees_child _ (λ e b. agrees_edge _ (agrees_deep x.depth) path p busy e b) 0 path p es q
+  agrees_answers path p busy es q = agrees_child (edge_says words nodes x path p busy) (λ e b. agrees_edge (guarded_within yes_outcome (node_says words nodes x) x.depth) (agrees_deep x.depth) path p busy e b) 0 path p es q
 
   pub agrees_says : (i : ℕ) (path : Text) (p : Place) (busy : List ℕ) (name : Text) (form : NodeForm K) → Agrees (form_says words nodes x i path p busy name form)
-  agrees_says i path p busy name form = agrees_form _ (λ e b. agrees_edge _ (agrees_deep x.depth) path p busy e b) i path p name form
+  agrees_says i path p busy name form = agrees_form (edge_says words nodes x path p busy) (λ e b. agrees_edge (guarded_within yes_outcome (node_says words nodes x) x.depth) (agrees_deep x.depth) path p busy e b) i path p name form
 
   -- a leaf that says yes has no errors
   pub leaf_accepts : (mode : Mode) (i : ℕ) (path : Text) (p : Place) (busy : List ℕ) (name : Text) (form : NodeForm K) (verdict r : code.Reply) → accepts (reply_of x.texts verdict) ≡ true
@@ -275,5 +298,5 @@ module _ {K R : Type 0} (words : Bool → Keywords K R) (nodes : Nodes K)
   leaf_accepts mode i path p busy name form verdict r t h a n =
       let o : Outcome = form_says words nodes x i path p busy name form in
       let yes : o.verdict ≡ true = ap accepts (sym h.same) ∙ t in
-      let none : o.errors ≡ [] = (agrees_form _ (λ e b. agrees_edge _ (agrees_deep x.depth) path p busy e b) i path p name form).0 yes in
-      replies_accepted x mode r o a n (λ j. record { verdict = yes j; errors = none j })
+      let none : o.errors ≡ [] = (agrees_form _ (λ e b. agrees_edge (guarded_within yes_outcome (node_says words nodes x) x.depth) (agrees_deep x.depth) path p busy e b) i path p name form).0 yes in
+      replies_accepted x mode r o a n yes none

@@ -51,8 +51,8 @@ same_errors : (es : List Error) → map (stamped None) es ≡ es
 same_errors [] = refl
 same_errors (e ∷ es) = ap (λ x. x ∷ map (stamped None) es) (same_error e) ∙ ap (λ (xs : List Error). e ∷ xs) (same_errors es)
 
-same_outcome : (o : Outcome) → o ≡ record { verdict = o.verdict; errors = map (stamped None) o.errors }
-same_outcome o = ap (λ es. record { verdict = o.verdict; errors = es }) (sym (same_errors o.errors))
+same_outcome : (o : Outcome) → o ≡ record { verdict = o.verdict; errors = map (stamped None) o.errors; spans = o.spans }
+same_outcome o = ap (λ es. record { verdict = o.verdict; errors = es; spans = o.spans }) (sym (same_errors o.errors))
 
 pub stays_none : {T U : Type 0} (f : T → U) (o : Option T) → is_some o ≡ false → option_map f o ≡ None
 stays_none f None h = refl
@@ -61,4 +61,4 @@ stays_none f (Some x) h = absurd (true≢false h)
 pub stamps_nothing : {K : Type 0} (n : NodeEntry K) (name : Text) (r : Reply) → n.base ≡ None → Stamps (keyword_absolute n name) r r
 stamps_nothing n name r h = λ mode o a.
     let none : keyword_absolute n name ≡ None = ap (option_map (λ base. base ++ (35 ∷ encoded (drop n.start (joined n.location name))))) h in
-    a ∙ ap (reply_by mode) (subst (λ l. o ≡ record { verdict = o.verdict; errors = map (stamped l) o.errors }) (sym none) (same_outcome o))
+    a ∙ ap (reply_by mode) (subst (λ l. o ≡ record { verdict = o.verdict; errors = map (stamped l) o.errors; spans = o.spans }) (sym none) (same_outcome o))

@@ -30,4 +30,4 @@ Joins a b r = (mode : Mode) (o o' : Outcome) → a ≡ reply_by mode o → b ≡
 
 -- the second reply is the first one with its errors stamped
 abbrev pub Stamps : Option Text → Reply → Reply → Type 0
-Stamps location a r = (mode : Mode) (o : Outcome) → a ≡ reply_by mode o → r ≡ reply_by mode (record { verdict = o.verdict; errors = map (stamped location) o.errors })
+Stamps location a r = (mode : Mode) (o : Outcome) → a ≡ reply_by mode o → r ≡ reply_by mode (record { verdict = o.verdict; errors = map (stamped location) o.errors; spans = o.spans })

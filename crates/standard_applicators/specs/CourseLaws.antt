@@ -7,7 +7,7 @@ use Rattle.theory_definitions.specs.Instance.{Subject, Text, a_name}
 use Rattle.schema_reports.specs.ReportViews.{spoken}
 use Rattle.theory_definitions.specs.Reports.{Unit_, report_of}
 use Rattle.theory_definitions.specs.Matching.{Matching}
-use Rattle.theory_definitions.specs.Keywords.{Answer, Answers, Fault, Marked, Question, Reply, Turn, all_valid, ask, done, ecma, for_all, for_first, for_units, for_verdict, mark, match_text, own, unmark}
+use Rattle.theory_definitions.specs.Keywords.{Answer, Answers, Fault, Marked, Question, Reply, Turn, all_valid, ask, done, ecma, for_all, for_first, for_units, for_verdict, mark, match_text, own, unmark, is_spanned}
 use Rattle.theory_definitions.specs.Keywords as spec
 use Rattle.theory_definitions.specs.Laws.{Agrees, AsksRightly, IsRight, PassesUnchanged, StandsInside, answer_in}
 use Rattle.theory_definitions.specs.Remembering.{AlwaysAsksVerdict, AsksVerdict, EachAsksVerdicts}
@@ -158,6 +158,7 @@ module _ {M : Type 0} (course : M → Subject → Course) where
   asks_rightly texts m s w within (mark i) h = tt
   asks_rightly texts m s w within unmark h = tt
   asks_rightly texts m s w within (ecma text) h = tt
+  asks_rightly texts m s w within (is_spanned step) h = tt
   asks_rightly texts m s w within done h = tt
 
   way_asks : (s : Subject) (w : Way) (x : Progress × Answer) (r : Reply) → AsksRightly (words_of alone false) w s [] (step_at w x.0.mode x.0.stage r)
@@ -232,6 +233,7 @@ module _ {M : Type 0} (course : M → Subject → Course) where
     holds_reads = λ s matches a b h. course_holds_read (spoken_by course texts m s) matches a b h;
     faults_read = λ s matches a b h. course_faults_read (spoken_by course texts m s) matches a b h;
     units_read = λ s matches a b h. course_units_read (spoken_by course texts m s) matches a b h;
+    spans_read = λ s. All-nil _;
     stands = λ s matches a. course_inside (spoken_by course texts m s) matches s a;
     passes = λ s matches a. course_passes (spoken_by course texts m s) matches a;
   }

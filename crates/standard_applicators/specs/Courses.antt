@@ -111,6 +111,8 @@ module _ {M : Type 0} (course : M → Subject → Course) where
   course_words texts = record {
     texts = texts;
     may_ask = λ m s. asked_by (spoken_by texts m s);
+    spans = λ m s. [];
+    is_told = λ m. false;
     holds = λ m s matches accepts. course_holds (spoken_by texts m s) matches accepts;
     faults = λ m s matches answers. course_faults (spoken_by texts m s) matches answers;
     units = λ m s matches u. course_units (spoken_by texts m s) matches u;

@@ -7,7 +7,7 @@ use Rattle.std.proofs.lemmas.Slice.Eq.{bytes_eq-Decides}
 use Rattle.serde_json.specs.Data.{Members, member, no_members}
 use Rattle.serde_json.specs.Find.{as_object}
 use Rattle.theory_definitions.specs.Instance.{Subject, Text, a_name, a_value, member_of}
-use Rattle.theory_definitions.specs.Keywords.{Answer, Answers, Marked, Mode, Question, Turn, ask, done, ecma, for_all, for_first, for_units, for_verdict, mark, match_text, unmark}
+use Rattle.theory_definitions.specs.Keywords.{Answer, Answers, Marked, Mode, Question, Turn, ask, done, ecma, for_all, for_first, for_units, for_verdict, mark, match_text, unmark, is_spanned}
 use Rattle.theory_definitions.specs.Laws.{AsksRightly, IsPresent, IsRight, answer_in, first_fault, steps_below}
 use Rattle.theory_definitions.specs.Matching.{Matching}
 use Rattle.theory_definitions.specs.Reports.{Unit_}
@@ -155,6 +155,7 @@ asks_right texts m ks s (match_text a point) h = h
 asks_right texts m ks s (mark i) h = tt
 asks_right texts m ks s unmark h = tt
 asks_right texts m ks s (ecma text) h = tt
+asks_right texts m ks s (is_spanned step) h = tt
 asks_right texts m ks s done h = tt
 
 is_right : (texts : Bool) (m : BasicShape) (s : Subject) (matches : Matching) (a : Answers) (u : Question → Unit_) (same : Marked → Marked → Bool) (mode' : Mode) (answer : Answer)
@@ -179,6 +180,7 @@ same_reply texts m ks x (match_text a point) = refl
 same_reply texts m ks x (mark i) = refl
 same_reply texts m ks x unmark = refl
 same_reply texts m ks x (ecma text) = refl
+same_reply texts m ks x (is_spanned step) = refl
 same_reply texts m ks x done = refl
 
 -- The laws hold for the runs that hold these names.
@@ -235,6 +237,7 @@ functions_keep texts m = let laws : FunctionLaws (words_of way texts) m (nothing
   holds_reads = laws.holds_reads;
   faults_read = laws.faults_read;
   units_read = laws.units_read;
+  spans_read = laws.spans_read;
   stands = laws.stands;
   passes = laws.passes;
 }

@@ -113,6 +113,8 @@ abbrev pub words : Bool → Keywords BasicShape (NamesRun × Answer)
 words texts = record {
   texts = texts;
   may_ask = λ m s. questions (way texts m s);
+  spans = λ m s. [];
+  is_told = λ m. false;
   holds = λ m s matches accepts. way_holds (way texts m s) matches accepts;
   faults = λ m s matches answers. way_faults (way texts m s) matches answers;
   units = λ m s matches unit_at. way_units (way texts m s) matches unit_at;

@@ -301,6 +301,7 @@ family_function_laws assertions applicators patterns formats basics laws_a laws_
   holds_reads = laws.holds_reads;
   faults_read = laws.faults_read;
   units_read = laws.units_read;
+  spans_read = laws.spans_read;
   stands = laws.stands;
   passes = laws.passes;
 }
@@ -311,6 +312,7 @@ family_function_laws assertions applicators patterns formats basics laws_a laws_
   holds_reads = laws.holds_reads;
   faults_read = laws.faults_read;
   units_read = laws.units_read;
+  spans_read = laws.spans_read;
   stands = laws.stands;
   passes = laws.passes;
 }
@@ -321,6 +323,7 @@ family_function_laws assertions applicators patterns formats basics laws_a laws_
   holds_reads = laws.holds_reads;
   faults_read = laws.faults_read;
   units_read = laws.units_read;
+  spans_read = laws.spans_read;
   stands = laws.stands;
   passes = laws.passes;
 }
@@ -331,6 +334,7 @@ family_function_laws assertions applicators patterns formats basics laws_a laws_
   holds_reads = laws.holds_reads;
   faults_read = laws.faults_read;
   units_read = laws.units_read;
+  spans_read = laws.spans_read;
   stands = laws.stands;
   passes = laws.passes;
 }
@@ -341,6 +345,7 @@ family_function_laws assertions applicators patterns formats basics laws_a laws_
   holds_reads = laws.holds_reads;
   faults_read = laws.faults_read;
   units_read = laws.units_read;
+  spans_read = laws.spans_read;
   stands = laws.stands;
   passes = laws.passes;
 }

@@ -5,7 +5,7 @@ use Rattle.std.specs.Prelude.{Bool, List, ℕ}
 use Rattle.theory_definitions.specs.Instance.{Subject}
 use Rattle.theory_definitions.specs.Reports.{Unit_}
 use Rattle.theory_definitions.specs.Matching.{Matching}
-use Rattle.theory_definitions.specs.Keywords.{Answer, Answers, Fault, Gives, Keywords, Mode, Question, Reply, Turn, done}
+use Rattle.theory_definitions.specs.Keywords.{Answer, Answers, Fault, Gives, Keywords, Mode, Question, Reply, Turn, done, Span}
 use Rattle.theory_definitions.specs.Turns.{Standing}
 use Rattle.keyword_joins.specs.BothWords.{seen}
 use Rattle.standard_keywords.specs.declared.family.Family.{Family}
@@ -22,6 +22,20 @@ module _ {MA ML MP MF MB RA RL RP RF RB : Type 0} (assertions : Keywords MA (RA 
   asked (PatternProperties m) s = patterns.may_ask m s
   asked (Format m) s = formats.may_ask m s
   asked (Basic m) s = basics.may_ask m s
+
+  abbrev spanning : Family MA ML MP MF MB → Subject → List Span
+  spanning (Assertion m) s = assertions.spans m s
+  spanning (Applicator m) s = applicators.spans m s
+  spanning (PatternProperties m) s = patterns.spans m s
+  spanning (Format m) s = formats.spans m s
+  spanning (Basic m) s = basics.spans m s
+
+  abbrev told : Family MA ML MP MF MB → Bool
+  told (Assertion m) = assertions.is_told m
+  told (Applicator m) = applicators.is_told m
+  told (PatternProperties m) = patterns.is_told m
+  told (Format m) = formats.is_told m
+  told (Basic m) = basics.is_told m
 
   abbrev held : Family MA ML MP MF MB → Subject → Matching → (Question → Bool) → Bool
   held (Assertion m) s matches accepts = assertions.holds m s matches accepts
@@ -78,6 +92,8 @@ module _ {MA ML MP MF MB RA RL RP RF RB : Type 0} (assertions : Keywords MA (RA 
   joined texts = record {
     texts = texts;
     may_ask = asked;
+    spans = spanning;
+    is_told = told;
     holds = held;
     faults = faulted;
     units = given;

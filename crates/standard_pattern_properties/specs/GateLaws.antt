@@ -307,6 +307,8 @@ module _ {M : Type 0} (gates_of : M → List Gate) (form_of : M → Form) (names
   gated_words texts = record {
     texts = texts;
     may_ask = λ m s. asked_of (form_of m) (gated_in m s);
+    spans = λ m s. [];
+    is_told = λ m. false;
     holds = λ m s matches accepts. way_holds (gated_way texts m s matches) matches accepts;
     faults = λ m s matches answers. way_faults (gated_way texts m s matches) matches answers;
     units = λ m s matches unit_at. way_units (gated_way texts m s matches) matches unit_at;
@@ -420,6 +422,7 @@ module _ {M : Type 0} (gates_of : M → List Gate) (form_of : M → Form) (names
     holds_reads = λ s matches a b h. way_holds_reads (gated_way texts m s matches) matches a b (open_all (λ q. a q ≡ b q) texts (form_of m) matches (gated_in m s) h);
     faults_read = λ s matches a b h. way_faults_read (gated_way texts m s matches) matches a b (open_all (λ q. a q ≡ b q) texts (form_of m) matches (gated_in m s) h);
     units_read = λ s matches a b h. way_units_read (gated_way texts m s matches) matches a b (open_all (λ q. a q ≡ b q) texts (form_of m) matches (gated_in m s) h);
+    spans_read = λ s. All-nil _;
     stands = λ s matches a. way_stands_inside (gated_way texts m s matches) matches s [] a;
     passes = λ s matches a. All-weaker (PassesUnchanged a (questions (gated_way texts m s matches))) (PassesUnchanged a (asked_of (form_of m) (gated_in m s)))
         (wider a (questions (gated_way texts m s matches)) (asked_of (form_of m) (gated_in m s)) (open_inside texts m s matches)) _ (way_passes (gated_way texts m s matches) matches a);

@@ -58,6 +58,8 @@ abbrev pub once_words : Bool → Keywords ⊤ (Once × Answer)
 once_words texts = record {
   texts = texts;
   may_ask = λ m s. both;
+  spans = λ m s. [];
+  is_told = λ m. false;
   holds = λ m s matches accepts. accepts (child_at 0) && accepts (child_at 1);
   faults = λ m s matches answers. refusals texts ((answers (child_at 0)).verdict && (answers (child_at 1)).verdict);
   units = λ m s matches unit_at. unit_of texts ((report_of (unit_at (child_at 0))).valid && (report_of (unit_at (child_at 1))).valid);
@@ -224,6 +226,7 @@ once_functions texts m = record {
       (All-weaker (λ q. a q ≡ b q) (λ q. (a q).verdict ≡ (b q).verdict) (λ q e. ap (λ o. o.verdict) e) both h));
   units_read = λ s matches a b h. ap (unit_of texts) (both_same (λ q. (report_of (a q)).valid) (λ q. (report_of (b q)).valid)
       (All-weaker (λ q. a q ≡ b q) (λ q. (report_of (a q)).valid ≡ (report_of (b q)).valid) (λ q e. ap (λ u. (report_of u).valid) e) both h));
+  spans_read = λ s. All-nil _;
   stands = λ s matches a. refusals_stand texts s ((a (child_at 0)).verdict && (a (child_at 1)).verdict);
   passes = λ s matches a. refusals_pass texts a both ((a (child_at 0)).verdict && (a (child_at 1)).verdict);
 }

@@ -60,6 +60,8 @@ abbrev pub each_words : Bool → Keywords ⊤ (Left × Answer)
 each_words texts = record {
   texts = texts;
   may_ask = λ m s. all_items s;
+  spans = λ m s. [];
+  is_told = λ m. false;
   holds = λ m s matches accepts. holds_by s accepts;
   faults = λ m s matches answers. refusals texts (holds_by s (λ q. (answers q).verdict));
   units = λ m s matches unit_at. unit_of texts (holds_by s (λ q. (report_of (unit_at q)).valid));
@@ -195,6 +197,7 @@ each_functions texts m = record {
       (All-weaker (λ q. a q ≡ b q) (λ q. (a q).verdict ≡ (b q).verdict) (λ q e. ap (λ o. o.verdict) e) (all_items s) h));
   units_read = λ s matches a b h. ap (unit_of texts) (all_same (λ q. (report_of (a q)).valid) (λ q. (report_of (b q)).valid) (all_items s)
       (All-weaker (λ q. a q ≡ b q) (λ q. (report_of (a q)).valid ≡ (report_of (b q)).valid) (λ q e. ap (λ u. (report_of u).valid) e) (all_items s) h));
+  spans_read = λ s. All-nil _;
   stands = λ s matches a. refusals_stand texts s (holds_by s (λ q. (a q).verdict));
   passes = λ s matches a. refusals_pass texts a (all_items s) (holds_by s (λ q. (a q).verdict));
 }

@@ -3,7 +3,7 @@
 -- abstract value of the keyword is its pattern.
 use Rattle.std.proofs.Common.{◌≡◌, ◌∙◌, ℕ, zero, suc, ◌+◌, ◌<◌, ◌&&◌, ◌⊎◌, ◌∷◌, [], List, Bool, None, Option, Some, true, refl, sym, ap, add-one, arith, drop, inl, inr, length}
 use Rattle.std.specs.List.{list_all}
-use Rattle.std.specs.Prelude.{All, map}
+use Rattle.std.specs.Prelude.{All, map, false}
 use Rattle.std.proofs.lemmas.List.Elements.{All-cons, All-head, All-nil, All-tail}
 use Rattle.theory_definitions.specs.Instance.{Subject, Text, to_name}
 use Rattle.theory_definitions.specs.Reports.{Unit_}
@@ -51,6 +51,8 @@ abbrev pub name_words : Bool → Keywords Text (Next × Answer)
 name_words texts = record {
   texts = texts;
   may_ask = λ m s. [];
+  spans = λ m s. [];
+  is_told = λ m. false;
   holds = λ m s matches accepts. holds_by m s matches;
   faults = λ m s matches answers. refusals texts (holds_by m s matches);
   units = λ m s matches unit_at. unit_of texts (holds_by m s matches);
@@ -170,6 +172,7 @@ name_functions texts m = record {
   holds_reads = λ s matches a b h. refl;
   faults_read = λ s matches a b h. refl;
   units_read = λ s matches a b h. refl;
+  spans_read = λ s. All-nil _;
   stands = λ s matches a. refusals_stand texts s (holds_by m s matches);
   passes = λ s matches a. refusals_pass texts a [] (holds_by m s matches);
 }

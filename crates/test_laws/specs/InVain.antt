@@ -26,6 +26,8 @@ abbrev pub vain_words : Mode → Bool → Keywords ⊤ (Bool × Answer)
 vain_words asked texts = record {
   texts = texts;
   may_ask = λ m s. only_child ∷ [];
+  spans = λ m s. [];
+  is_told = λ m. false;
   holds = λ m s matches accepts. true;
   faults = λ m s matches answers. [];
   units = λ m s matches unit_at. no_gives;
@@ -94,6 +96,7 @@ vain_functions asked texts m = record {
   holds_reads = λ s matches a b h. refl;
   faults_read = λ s matches a b h. refl;
   units_read = λ s matches a b h. refl;
+  spans_read = λ s. All-nil _;
   stands = λ s matches a. All-nil _;
   passes = λ s matches a. All-nil _;
 }

@@ -4,7 +4,7 @@
 use Rattle.std.proofs.Common.{◌≡◌, ℕ, zero, suc, ◌+◌, ◌<◌, ◌⊎◌, [], List, Bool, true, false, refl, ap, arith, inl, inr}
 use Rattle.std.specs.Prelude.{if◌then◌else◌}
 use Rattle.theory_definitions.specs.Instance.{Subject, Text}
-use Rattle.theory_definitions.specs.Keywords.{Answer, Keywords, Mode, Reply, Turn, a_reservation, ask, done, ecma, for_units, for_verdict, mark, match_text, no_reply, unmark}
+use Rattle.theory_definitions.specs.Keywords.{Answer, Keywords, Mode, Reply, Turn, a_reservation, ask, done, ecma, for_units, for_verdict, mark, match_text, no_reply, unmark, is_spanned}
 use Rattle.theory_definitions.specs.Laws.{AsksRightly}
 use Rattle.theory_definitions.specs.Remembering.{AlwaysAsksVerdict, AsksVerdict, EachAsksVerdicts}
 use Rattle.theory_definitions.specs.Turns.{FunctionLaws, Standing, TurnLaws, marks_after, next, reply_to, step_at, turned}
@@ -36,6 +36,7 @@ shown marks (match_text a point) = match_text a point
 shown marks (mark i) = mark i
 shown marks unmark = unmark
 shown marks (ecma text) = ecma text
+shown marks (is_spanned step) = is_spanned step
 
 abbrev pub left_at : Stage → ℕ → ℕ
 left_at stage.Marks n = suc (suc n)
@@ -72,6 +73,8 @@ module _ {M P : Type 0} (marks : M → Bool) (other : Bool → Keywords M (P × 
   words texts = record {
     texts = (other texts).texts;
     may_ask = (other texts).may_ask;
+    spans = (other texts).spans;
+    is_told = (other texts).is_told;
     holds = (other texts).holds;
     faults = (other texts).faults;
     units = (other texts).units;
@@ -140,7 +143,9 @@ module _ {M P : Type 0} (marks : M → Bool) (other : Bool → Keywords M (P × 
       fewer unmark n n' (inl e) = absurd (let f : ⊥ = cc in f)
       fewer unmark n n' (inr l) = omega (arith, l)
       fewer (ecma text) n n' (inl e) = absurd (let f : ⊥ = cc in f)
+      fewer (is_spanned step) n n' (inl e) = absurd (let f : ⊥ = cc in f)
       fewer (ecma text) n n' (inr l) = omega (arith, l)
+      fewer (is_spanned step) n n' (inr l) = omega (arith, l)
 
       falls : (texts : Bool) (m : M) (s : Subject) (t : Stage) (r : P × Answer) (reply : Reply) → other_can texts m s r
           → (step_of texts m s t r reply ≡ done) ⊎ (remaining m s (turn_at texts m s t r reply) < left_at t (left m s r))
@@ -157,6 +162,7 @@ module _ {M P : Type 0} (marks : M → Bool) (other : Bool → Keywords M (P × 
       shown_asks texts m s b (mark i) h = tt
       shown_asks texts m s b unmark h = tt
       shown_asks texts m s b (ecma text) h = tt
+      shown_asks texts m s b (is_spanned step) h = tt
 
       asks : (texts : Bool) (m : M) (s : Subject) (t : Stage) (r : P × Answer) (reply : Reply) → other_can texts m s r → AsksRightly (words texts) m s (absorbed m) (step_of texts m s t r reply)
       asks texts m s stage.Marks r reply can = tt
@@ -191,6 +197,7 @@ module _ {M P : Type 0} (marks : M → Bool) (other : Bool → Keywords M (P × 
       works_on texts m x reply (ask q mode) n over goes = goes (λ e. let f : ⊥ = cc in f)
       works_on texts m x reply (match_text a point) n over goes = goes (λ e. let f : ⊥ = cc in f)
       works_on texts m x reply (ecma text) n over goes = goes (λ e. let f : ⊥ = cc in f)
+      works_on texts m x reply (is_spanned step) n over goes = goes (λ e. let f : ⊥ = cc in f)
       works_on texts m x reply (mark i) n over goes = absurd n
       works_on texts m x reply unmark n over goes = absurd n
 
@@ -217,6 +224,7 @@ module _ {M P : Type 0} (marks : M → Bool) (other : Bool → Keywords M (P × 
       shown_done b (mark i) e = e
       shown_done b unmark e = e
       shown_done b (ecma text) e = e
+      shown_done b (is_spanned step) e = e
 
       stands : (texts : Bool) (m : M) (t : Stage) (x : Standing Run) → fits texts m (at_stage t x) → step_at (words texts) m (at_stage t x) ≡ done
           → (words texts).answer (turned (words texts) m (at_stage t x)) ≡ ends texts m (at_stage t x)
@@ -261,6 +269,7 @@ module _ {M P : Type 0} (marks : M → Bool) (other : Bool → Keywords M (P × 
           holds_reads = l.holds_reads;
           faults_read = l.faults_read;
           units_read = l.units_read;
+          spans_read = l.spans_read;
           stands = l.stands;
           passes = l.passes;
         }
@@ -277,6 +286,7 @@ module _ {M P : Type 0} (marks : M → Bool) (other : Bool → Keywords M (P × 
     shown_less b (mark i) h = tt
     shown_less b unmark h = tt
     shown_less b (ecma text) h = tt
+    shown_less b (is_spanned step) h = tt
 
     step_less : (texts : Bool) (m : M) (s : Subject) (t : Stage) (r : P × Answer) (reply : Reply) → Less r → AsksForLess (step_of texts m s t r reply)
     step_less texts m s stage.Marks r reply h = tt
@@ -312,6 +322,7 @@ module _ {M P : Type 0} (marks : M → Bool) (other : Bool → Keywords M (P × 
     shown_verdict b (mark i) h = tt
     shown_verdict b unmark h = tt
     shown_verdict b (ecma text) h = tt
+    shown_verdict b (is_spanned step) h = tt
 
     step_verdict : (texts : Bool) (m : M) (s : Subject) (t : Stage) (r : P × Answer) (reply : Reply) → Verdict r → AsksVerdict (step_of texts m s t r reply)
     step_verdict texts m s stage.Marks r reply h = tt

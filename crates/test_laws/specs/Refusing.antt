@@ -20,6 +20,8 @@ abbrev pub refusing_words : Bool → Keywords ⊤ (⊤ × Answer)
 refusing_words texts = record {
   texts = texts;
   may_ask = λ m s. [];
+  spans = λ m s. [];
+  is_told = λ m. false;
   holds = λ m s matches accepts. false;
   faults = λ m s matches answers. refusals texts false;
   units = λ m s matches unit_at. unit_of texts false;
@@ -75,6 +77,7 @@ refusing_functions texts m = record {
   holds_reads = λ s matches a b h. refl;
   faults_read = λ s matches a b h. refl;
   units_read = λ s matches a b h. refl;
+  spans_read = λ s. All-nil _;
   stands = λ s matches a. All-cons (StandsInside s []) (refusal texts) [] (refl, ([], refl), tt) (All-nil _);
   passes = λ s matches a. All-cons (PassesUnchanged a []) (refusal texts) [] tt (All-nil _);
 }

@@ -6,7 +6,7 @@ use Rattle.std.specs.Prelude.{slice_get, unwrap_or}
 use Rattle.theory_definitions.specs.Instance.{Subject, Text}
 use Rattle.theory_definitions.specs.Reports.{Unit_, report_of}
 use Rattle.theory_definitions.specs.Matching.{Matching}
-use Rattle.theory_definitions.specs.Keywords.{Answer, Answers, Keywords, Marked, Question, Reply, Turn, ask, done, ecma, mark, match_text, unmark, for_all, for_first, for_units, for_verdict}
+use Rattle.theory_definitions.specs.Keywords.{Answer, Answers, Keywords, Marked, Question, Reply, Turn, ask, done, ecma, mark, match_text, unmark, for_all, for_first, for_units, for_verdict, is_spanned}
 use Rattle.theory_definitions.specs.Keywords as spec
 use Rattle.theory_definitions.specs.Laws.{Agrees, AnsweredAlike, AsksRightly, IsRight}
 use Rattle.theory_definitions.specs.Turns.{FunctionLaws, Standing, TurnLaws, next, reply_to, standing, step_at, turned}
@@ -59,6 +59,8 @@ abbrev pub detour_words : Bool → Keywords Detour (Detouring × Answer)
 detour_words texts = record {
   texts = texts;
   may_ask = λ m s. (words texts).may_ask m.1 s;
+  spans = λ m s. (words texts).spans m.1 s;
+  is_told = λ m. (words texts).is_told m.1;
   holds = λ m s matches accepts. (words texts).holds m.1 s matches accepts;
   faults = λ m s matches answers. (words texts).faults m.1 s matches answers;
   units = λ m s matches unit_at. (words texts).units m.1 s matches unit_at;
@@ -137,6 +139,7 @@ asks_as texts m s (match_text a point) h = h
 asks_as texts m s (mark i) h = tt
 asks_as texts m s unmark h = tt
 asks_as texts m s (ecma text) h = tt
+asks_as texts m s (is_spanned step) h = tt
 asks_as texts m s done h = tt
 
 asks : (texts : Bool) (m : Detour) (s : Subject) (left : ℕ) (r : NamesRun × Answer) (reply : Reply)
@@ -173,6 +176,7 @@ same_reply texts m s matches a u same marks (match_text p point) = refl
 same_reply texts m s matches a u same marks (mark i) = refl
 same_reply texts m s matches a u same marks unmark = refl
 same_reply texts m s matches a u same marks (ecma text) = refl
+same_reply texts m s matches a u same marks (is_spanned step) = refl
 same_reply texts m s matches a u same marks done = refl
 
 -- the run with this many matches left
@@ -225,6 +229,7 @@ detour_functions texts m =
       holds_reads = own.holds_reads;
       faults_read = own.faults_read;
       units_read = own.units_read;
+      spans_read = own.spans_read;
       stands = own.stands;
       passes = own.passes;
     }

@@ -5,7 +5,7 @@ use Rattle.std.proofs.Common.{◌≡◌, ◌∙◌, ◌==◌, ◌∷◌, ◌++�
 use Rattle.std.specs.Prelude.{None, Option, Some, ◌↔◌}
 use Rattle.std.specs.List.{list_any}
 use Rattle.theory_definitions.specs.Instance.{Place, Subject, Text}
-use Rattle.theory_definitions.specs.Keywords.{Answers, Below, Keywords, Marked, MatchPoint, Mode, Question, Reply, Turn, ask, done, ecma, for_all, for_first, for_units, for_verdict, here, mark, match_text, no_reply, truth, unmark}
+use Rattle.theory_definitions.specs.Keywords.{Answers, Below, Keywords, Marked, MatchPoint, Mode, Question, Reply, Turn, ask, done, ecma, for_all, for_first, for_units, for_verdict, here, mark, match_text, no_reply, truth, unmark, is_spanned}
 use Rattle.theory_definitions.specs.Laws.{Agrees}
 use Rattle.theory_definitions.specs.Matching.{Assumptions, Completion, Match, Matcher, Pair, completed, completion_of, finished, matching, unfinished}
 use Rattle.theory_definitions.specs.Meaning.{Where, place_below}
@@ -68,6 +68,7 @@ module _ (matcher : Matcher) (finishes : FinishesEach matcher) where
               | mark i ↦ MetIn n (with_mark same i marks) (keywords.turn m s r reply) (truth (list_any (same i) marks))
               | unmark ↦ MetIn n (without_last marks) (keywords.turn m s r reply) no_reply
               | ecma text ↦ MetIn n marks (keywords.turn m s r reply) (truth (matcher.is_ecma text))
+              | is_spanned step ↦ MetIn n marks (keywords.turn m s r reply) (truth false)
               | done ↦ []
             ]) []
         go (ask q mode) rest = ap (λ ms. ms ++ MetIn n marks (keywords.turn m s r reply) (reply_in mode (run_of q))) ((all_meet q).none mode) ∙ rest marks (reply_in mode (run_of q))
@@ -75,6 +76,7 @@ module _ (matcher : Matcher) (finishes : FinishesEach matcher) where
         go (mark i) rest = rest (with_mark same i marks) (truth (list_any (same i) marks))
         go unmark rest = rest (without_last marks) no_reply
         go (ecma text) rest = rest marks (truth (matcher.is_ecma text))
+        go (is_spanned step) rest = rest marks (truth false)
         go done rest = refl
 
   -- ---- a plan
@@ -181,4 +183,4 @@ module _ {K R : Type 0} (g : Setting K R) (q : Asking) (e : NodeEdge) where
         let o : Outcome = edge_says g.words g.nodes x q.path q.place (busy g q c) e here in
         let yes : o.verdict ≡ true = ap accepts (sym (says x reads l).same) ∙ is in
         let none : o.errors ≡ [] = (agrees_edge g.words g.nodes agree x (deep g.words g.nodes x) (agrees_deep g.words g.nodes agree x x.depth) q.path q.place (busy g q c) e here).0 yes in
-        replies_accepted x q.mode r o accepts_it no_errors (λ j. record { verdict = yes j; errors = none j })
+        replies_accepted x q.mode r o accepts_it no_errors yes none

@@ -1,10 +1,10 @@
 -- Which unfinished matches a keyword's run has met between two turns, and which it has still to
 -- meet.
-use Rattle.std.proofs.Common.{◌≡◌, ◌∙◌, ℕ, zero, suc, ◌<◌, Bool, List, [], ◌∷◌, ◌++◌, refl, sym, ap, subst, arith, append_assoc, append-nil}
+use Rattle.std.proofs.Common.{◌≡◌, ◌∙◌, ℕ, zero, suc, ◌<◌, Bool, List, [], ◌∷◌, ◌++◌, false, refl, sym, ap, subst, arith, append_assoc, append-nil}
 use Rattle.std.specs.List.{list_any}
 use Rattle.theory_definitions.specs.Instance.{Subject, Text}
 use Rattle.theory_definitions.specs.Matching.{Assumptions, Match, Matcher, Pair, completed, completion_of, finished, settled, unfinished}
-use Rattle.theory_definitions.specs.Keywords.{Keywords, Marked, MatchPoint, Mode, Question, Reply, Turn, ask, done, ecma, for_verdict, mark, match_text, no_reply, truth, unmark}
+use Rattle.theory_definitions.specs.Keywords.{Keywords, Marked, MatchPoint, Mode, Question, Reply, Turn, ask, done, ecma, for_verdict, mark, match_text, no_reply, truth, unmark, is_spanned}
 use Rattle.theory_definitions.specs.Meaning.{Where}
 use Rattle.theory_definitions.specs.Runs.{Met, Run, keyword_met, reply_in, site_at, turns, with_mark, without_last}
 use Rattle.theory_definitions.specs.Unfinished.{Remembered}
@@ -30,6 +30,7 @@ module _ {K R : Type 0} (keywords : Keywords K R) (matcher : Matcher) (as' : Ass
     | mark i ↦ rest (with_mark same i marks) (truth (list_any (same i) marks))
     | unmark ↦ rest (without_last marks) no_reply
     | ecma text ↦ rest marks (truth (matcher.is_ecma text))
+    | is_spanned step ↦ rest marks (truth false)
     | done ↦ []
   ]
 
