@@ -34,7 +34,7 @@ returns-clause-means g c = λ options root compiled instance texts speaks.
     let number = c.args.root.0 in
     let whole = whole_from r table options matcher keywords k.absorbed k.is_whole inside same scripts each k.shape nodes number root compiled instance speaks in
     let meant = means_from r table options matcher keywords k.absorbed k.is_whole inside same scripts each k.shape nodes number root compiled instance in
-    let equal = g.met.M.Matcher.cloned c.args.matcher.now c.in_ok-matcher.matcher c.in_ok-matcher.ensures.cases in
+    let equal = (g.met.M.Matcher.cloned c.args.matcher.now c.in_ok-matcher.matcher c.in_ok-matcher.ensures.cases).0 in
     let made = c.of_nodes_within.ensures.made in
     let told = g.met.K.Validate.speaks texts in
     let w = parts_of r table matcher keywords options in (
@@ -57,10 +57,10 @@ returns-clause-units g c = λ options root compiled instance texts speaks.
     let nodes = c.args.nodes in
     let number = c.args.root.0 in
     let had = units_from r table options matcher keywords k.absorbed k.is_whole inside same scripts each k.shape nodes number root compiled instance in
-    let equal = g.met.M.Matcher.cloned c.args.matcher.now c.in_ok-matcher.matcher c.in_ok-matcher.ensures.cases in
+    let equal = (g.met.M.Matcher.cloned c.args.matcher.now c.in_ok-matcher.matcher c.in_ok-matcher.ensures.cases).0 in
     let w = parts_of r table matcher keywords options in
     subst (λ (p : Program g.row.K.Denot g.row.M.Denot). PlainlyWithUnits w root instance (λ v units. HaveUnits k.shape k.words k.is_whole g.M.Matcher.matching p instance texts units)) (sym c.of_nodes_within.ensures.made)
     (subst (λ m. PlainlyWithUnits w root instance (λ v units. means.HaveUnits keywords m (numbered k.shape nodes) number instance units)) (sym equal) had)
 
 pub returns-clause-matcher : goal.returns-clause-matcher
-returns-clause-matcher g c = ap (λ (p : Program g.row.K.Denot g.row.M.Denot). g.M.Matcher.matching p.matcher) c.of_nodes_within.ensures.made ∙ g.met.M.Matcher.cloned c.args.matcher.now c.in_ok-matcher.matcher c.in_ok-matcher.ensures.cases
+returns-clause-matcher g c = ap (λ (p : Program g.row.K.Denot g.row.M.Denot). g.M.Matcher.matching p.matcher) c.of_nodes_within.ensures.made ∙ (g.met.M.Matcher.cloned c.args.matcher.now c.in_ok-matcher.matcher c.in_ok-matcher.ensures.cases).0

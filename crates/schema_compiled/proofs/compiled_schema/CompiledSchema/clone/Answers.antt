@@ -22,7 +22,7 @@ returns-clause-says g c =
     (c.in_ok-clone.ensures.numbered ∙ ap (λ (p : Program g.row.K.Denot g.row.M.Denot). numbered g.K.Validate.shape p.nodes) same)
     (c.in_ok-clone.ensures.count ∙ ap (λ (p : Program g.row.K.Denot g.row.M.Denot). length p.nodes) same)
     (ap (λ (p : Program g.row.K.Denot g.row.M.Denot). p.root) same)
-    (g.met.M.Matcher.cloned c.self.inside.matcher c.in_ok-clone-2.field-0 c.in_ok-clone-2.ensures.cases ∙ ap (λ (p : Program g.row.K.Denot g.row.M.Denot). g.M.Matcher.matching p.matcher) same)
+    ((g.met.M.Matcher.cloned c.self.inside.matcher c.in_ok-clone-2.field-0 c.in_ok-clone-2.ensures.cases).0 ∙ ap (λ (p : Program g.row.K.Denot g.row.M.Denot). g.M.Matcher.matching p.matcher) same)
     (ap (λ (p : Program g.row.K.Denot g.row.M.Denot). p.runs) same)
     (ap (λ (p : Program g.row.K.Denot g.row.M.Denot). p.work) same)
 
@@ -33,6 +33,6 @@ returns-clause-answers g c =
     (c.in_ok-clone.ensures.numbered ∙ ap (λ (p : Program g.row.K.Denot g.row.M.Denot). numbered g.K.Validate.shape p.nodes) same)
     (c.in_ok-clone.ensures.count ∙ ap (λ (p : Program g.row.K.Denot g.row.M.Denot). length p.nodes) same)
     (ap (λ (p : Program g.row.K.Denot g.row.M.Denot). p.root) same)
-    (g.met.M.Matcher.cloned c.self.inside.matcher c.in_ok-clone-2.field-0 c.in_ok-clone-2.ensures.cases ∙ ap (λ (p : Program g.row.K.Denot g.row.M.Denot). g.M.Matcher.matching p.matcher) same)
+    ((g.met.M.Matcher.cloned c.self.inside.matcher c.in_ok-clone-2.field-0 c.in_ok-clone-2.ensures.cases).0 ∙ ap (λ (p : Program g.row.K.Denot g.row.M.Denot). g.M.Matcher.matching p.matcher) same)
     (ap (λ (p : Program g.row.K.Denot g.row.M.Denot). p.runs) same)
     (ap (λ (p : Program g.row.K.Denot g.row.M.Denot). p.work) same)
