@@ -142,7 +142,7 @@ reached_on m least end next k old new put less a b = put k ∙ or_right (old k) 
 
 -- ---- runs are repetitions of one character of the set
 
-iterates_runs : (set : List (ℕ × ℕ)) (text : List ℕ) (n i j : ℕ) → Iterates (λ x y. Matches (One set) text x y) n i j → Runs set text i j × (j ≡ i + n)
+pub iterates_runs : (set : List (ℕ × ℕ)) (text : List ℕ) (n i j : ℕ) → Iterates (λ x y. Matches (One set) text x y) n i j → Runs set text i j × (j ≡ i + n)
 iterates_runs set text zero i j e = ((omega arith, λ k h l. absurd (omega arith)), omega arith)
 iterates_runs set text (suc n) i j h =
     let rest = iterates_runs set text n h.0 j h.2 in
@@ -161,7 +161,7 @@ iterates_runs set text (suc n) i j h =
         let same : i ≡ k = omega arith in
         subst (λ (p : ℕ). IsTaken set text p) same (h.1.0, h.1.1)
 
-runs_iterates : (set : List (ℕ × ℕ)) (text : List ℕ) (n i j : ℕ) → j ≡ i + n → Runs set text i j → Iterates (λ x y. Matches (One set) text x y) n i j
+pub runs_iterates : (set : List (ℕ × ℕ)) (text : List ℕ) (n i j : ℕ) → j ≡ i + n → Runs set text i j → Iterates (λ x y. Matches (One set) text x y) n i j
 runs_iterates set text zero i j e r = omega arith
 runs_iterates set text (suc n) i j e r =
     let here = r.1 i (omega arith) (omega arith) in

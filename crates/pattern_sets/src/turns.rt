@@ -1,10 +1,11 @@
 //! How often a body is repeated, and whether it may take nothing.
-ghost use Rattle.std.specs.Prelude.{◌≡◌, ◌<◌, ◌+◌, ◌-◌, ◌^◌, option_map, true};
+ghost use Rattle.std.specs.Prelude.{◌≡◌, ◌<◌, ◌+◌, ◌-◌, ◌^◌, IfSome, None, option_map, true};
+ghost use Rattle.pattern_trees.specs.Patterns.{One, Repeat};
 ghost use Rattle.pattern_sets.specs.Images.{MatchesEmpty, most_within};
 ghost use Rattle.pattern_trees.specs.Nodes.{node_of};
 ghost use Rattle.pattern_trees.specs.Trees.{pattern_of};
 
-use pattern_trees::{Tree, Turns};
+use pattern_trees::{CharSet, Tree, Turns};
 
 /// Returns how many turns may follow the least number of them, if there is a greatest number.
 pub fn more_turns(turns: &Turns) -> Option<u32>
@@ -24,6 +25,26 @@ pub fn most_turns(least: u32, more: Option<u32>, longest: usize) -> usize
     match more {
         None => least as usize + longest,
         Some(more) => least as usize + more as usize,
+    }
+}
+
+/// Returns the set of a pattern that takes one character.
+pub fn one_of(tree: &Tree) -> Option<&CharSet>
+    ensures one { IfSome result (λ s. pattern_of (node_of tree.now) ≡ One s.now.spans.items) }
+{
+    match tree {
+        Tree::OneOf(set) => Some(set),
+        _ => None,
+    }
+}
+
+/// Returns the set of a pattern that takes any number of characters.
+pub fn any_of(tree: &Tree) -> Option<&CharSet>
+    ensures any { IfSome result (λ s. pattern_of (node_of tree.now) ≡ Repeat 0 None (One s.now.spans.items)) }
+{
+    match tree {
+        Tree::Times(turns, body) if turns.min == 0 && turns.max.is_none() => one_of(body),
+        _ => None,
     }
 }
 

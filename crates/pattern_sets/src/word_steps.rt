@@ -1,7 +1,8 @@
 //! One step of a pattern on words, and any number of steps over one set.
-ghost use Rattle.std.specs.Prelude.{◌≡◌, ◌<◌, ◌≤◌, ◌+◌, ◌-◌, ◌==◌, ◌&&◌, ◌||◌, ◌^◌, ℕ, Some, None, MatchOption, length, not, true, false, nat_le};
+ghost use Rattle.std.specs.Prelude.{◌≡◌, ◌<◌, ◌≤◌, ◌+◌, ◌-◌, ◌==◌, ◌&&◌, ◌||◌, ◌^◌, ℕ, Some, None, MatchOption, length, not, slice_index, true, false, nat_le};
 ghost use Rattle.pattern_trees.specs.Patterns.{At, One, Repeat};
-ghost use Rattle.pattern_sets.specs.Images.{IsImage, IsTaken, Reaches, RunsFor, Steps, in_word, leads};
+ghost use Rattle.pattern_trees.specs.Sets.{in_set};
+ghost use Rattle.pattern_sets.specs.Images.{IsImage, IsTaken, Joined, Reaches, RunsFor, Steps, in_word, leads};
 
 use crate::at_position::{is_at, takes};
 use crate::runs::{after_run, run_end};
@@ -84,6 +85,40 @@ pub fn step_reaches(set: &CharSet, text: &[char], from: u64) -> bool
             return true;
         }
         i = m + 1;
+    }
+    false
+}
+
+// Returns whether a search has begun, or begins at a position.
+#[inline(always)]
+fn is_begun(is_on: bool, from: u64, position: usize) -> bool
+    requires within { position < 64 }
+    ensures begun { result ≡ (is_on || in_word from position) }
+{
+    is_on || has(from, position)
+}
+
+// Returns whether a search is on, and the character after a position in a set.
+#[inline(always)]
+fn is_taken(is_on: bool, set: &CharSet, text: &[char], position: usize) -> bool
+    requires within { position < length text.now }
+    ensures taken { result ≡ (is_on && in_set set.now.spans.items (slice_index text.now position)) }
+{
+    is_on && set.has(text[position])
+}
+
+/// Returns whether any number of characters of a set, and one of another, lead on anywhere.
+pub fn run_reaches(run: &CharSet, last: &CharSet, text: &[char], from: u64) -> bool
+    requires short { length text.now < 64 }
+    ensures reaches { Reaches (Joined (leads true (Repeat 0 None (One run.now.spans.items)) text.now) (leads true (One last.now.spans.items) text.now)) (length text.now) (in_word from) result }
+{
+    let mut is_on = false;
+    'search: for at in 0..text.len() {
+        let begun = is_begun(is_on, from, at);
+        if is_taken(begun, last, text, at) {
+            return true;
+        }
+        is_on = is_taken(begun, run, text, at);
     }
     false
 }

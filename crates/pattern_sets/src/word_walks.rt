@@ -5,9 +5,9 @@ ghost use Rattle.pattern_trees.specs.Patterns.{Either, IsFound, Iterates, Look, 
 ghost use Rattle.pattern_trees.specs.Trees.{pattern_of};
 ghost use Rattle.pattern_sets.specs.Images.{IsImage, IsOne, Joined, Reaches, Spreads, Steps, in_word, leads};
 
-use crate::turns::more_turns;
+use crate::turns::{any_of, more_turns, one_of};
 use crate::word_steps::{
-    all, keep_edges, next, run_back, step_back, step_on, step_reaches, times_on,
+    all, keep_edges, next, run_back, run_reaches, step_back, step_on, step_reaches, times_on,
 };
 use pattern_rows::{both, either, without};
 use pattern_trees::Tree;
@@ -42,7 +42,7 @@ fn word_lead(tree: &Tree, text: &[char], forward: bool, from: u64) -> u64
         }
         Tree::Pair(a, b) => {
             if forward {
-                word_both(a, b, text, forward, from)
+                word_row(a, b, text, from)
             } else {
                 word_both(b, a, text, forward, from)
             }
@@ -73,9 +73,35 @@ fn word_both(a: &Tree, b: &Tree, text: &[char], forward: bool, from: u64) -> u64
     word_walk(b, text, forward, mid)
 }
 
+// Returns where a first pattern leads, on, and then the others of a row.
+#[cycle(word_walk)]
+fn word_row(first: &Tree, rest: &Tree, text: &[char], from: u64) -> u64
+    requires short { length text.now < 64 }
+    ensures leaves { IsImage (Joined (leads true (pattern_of (node_of first.now)) text.now) (leads true (pattern_of (node_of rest.now)) text.now)) (in_word from) (in_word result) }
+{
+    let at = word_first(first, text, true, from);
+    word_on(rest, text, at)
+}
+
+// Returns where a pattern leads, on, that is likely a row.
+#[inline(always)]
+#[cycle(word_walk)]
+fn word_on(tree: &Tree, text: &[char], from: u64) -> u64
+    requires short { length text.now < 64 }
+    ensures walks { IsImage (leads true (pattern_of (node_of tree.now)) text.now) (in_word from) (in_word result) }
+{
+    if from == 0 {
+        return 0;
+    }
+    match tree {
+        Tree::Pair(a, b) => word_row(a, b, text, from),
+        _ => word_first(tree, text, true, from),
+    }
+}
+
 // Returns where the first of two patterns leads.
 //
-// Many are one character or an assertion, which take no call.
+// Many are one character, an assertion or a repetition, which take no further call.
 #[inline(always)]
 #[cycle(word_walk)]
 fn word_first(tree: &Tree, text: &[char], forward: bool, from: u64) -> u64
@@ -85,6 +111,15 @@ fn word_first(tree: &Tree, text: &[char], forward: bool, from: u64) -> u64
     match tree {
         Tree::OneOf(set) if forward => step_on(set, text, from),
         Tree::At(edge) => keep_edges(*edge, text, forward, from),
+        Tree::Times(turns, body) => word_times(
+            turns.min,
+            more_turns(turns),
+            body,
+            text,
+            forward,
+            from,
+        ),
+        Tree::Choice(a, b) => word_choice(a, b, text, forward, from),
         _ => word_walk(tree, text, forward, from),
     }
 }
@@ -156,6 +191,13 @@ fn both_reach(a: &Tree, b: &Tree, text: &[char], forward: bool, from: u64) -> bo
     requires short { length text.now < 64 }
     ensures reaches { Reaches (Joined (leads forward (pattern_of (node_of a.now)) text.now) (leads forward (pattern_of (node_of b.now)) text.now)) (length text.now) (in_word from) result }
 {
+    if forward {
+        if let Some(run) = any_of(a) {
+            if let Some(last) = one_of(b) {
+                return run_reaches(run, last, text, from);
+            }
+        }
+    }
     let mid = word_walk(a, text, forward, from);
     word_reaches(b, text, forward, mid)
 }

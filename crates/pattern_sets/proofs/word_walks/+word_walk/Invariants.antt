@@ -69,3 +69,9 @@ decreases-word_at_most l = 8 * size-Tree l.body.now + 3
 
 abbrev pub decreases-word_spread : goal.decreases-word_spread
 decreases-word_spread l = 8 * size-Tree l.body.now + 2
+
+abbrev pub decreases-word_row : goal.decreases-word_row
+decreases-word_row l = 8 * max (size-Tree l.first.now) (size-Tree l.rest.now) + 4
+
+abbrev pub decreases-word_on : goal.decreases-word_on
+decreases-word_on l = 8 * size-Tree l.tree.now + 3

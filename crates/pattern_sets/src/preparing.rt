@@ -1,0 +1,182 @@
+//! Rewrites a pattern into one that matches alike, and is walked faster.
+ghost use Rattle.std.specs.Prelude.{◌≡◌, ◌++◌, IfOk, IfSome, true};
+ghost use Rattle.pattern_trees.specs.Nodes.{Around, Nothing, Times, node_of};
+ghost use Rattle.pattern_trees.specs.Patterns.{Either, Then};
+ghost use Rattle.pattern_trees.specs.Trees.{pattern_of};
+ghost use Rattle.pattern_sets.specs.Alike.{AreAlike};
+
+use crate::row_steps::OutOfMemory;
+use pattern_trees::{CharSet, Look, Tree, Turns};
+use std::alloc::Global;
+
+// How many items a row has at most. A longer one would make a deep tree.
+const LONGEST_ROW: usize = 16;
+
+// How many spans a set of two sets has at most. They need not be in order.
+const MOST_SPANS: usize = 16;
+
+/// Returns a pattern that matches alike, and is walked faster.
+///
+/// It has no groups, two sets of characters beside each other are one set, and a sequence is a row:
+/// its first item, and then what follows.
+///
+/// # Errors
+///
+/// Fails only if memory cannot be allocated.
+#[cycle(prepare)]
+pub fn prepare(alloc: Global, tree: &Tree) -> Result<Tree, OutOfMemory>
+    ensures alike { IfOk result (λ t. AreAlike (pattern_of (node_of tree.now)) (pattern_of (node_of t))) }
+{
+    if count_items(tree) <= LONGEST_ROW {
+        Ok(before(alloc, tree, Tree::Nothing)?)
+    } else {
+        Ok(prepare_long(alloc, tree)?)
+    }
+}
+
+// Returns the same of a long sequence, as a pair of two.
+#[cycle(prepare)]
+fn prepare_long(alloc: Global, tree: &Tree) -> Result<Tree, OutOfMemory>
+    ensures alike { IfOk result (λ t. AreAlike (pattern_of (node_of tree.now)) (pattern_of (node_of t))) }
+{
+    match tree {
+        Tree::Group(_, body) => Ok(prepare(alloc, body)?),
+        Tree::Pair(a, b) => {
+            let a = prepare(alloc, a)?;
+            let b = prepare(alloc, b)?;
+            Ok(pair(alloc, a, b)?)
+        }
+        _ => Ok(before(alloc, tree, Tree::Nothing)?),
+    }
+}
+
+// Returns the row of a pattern's items and of those that follow.
+#[cycle(prepare)]
+fn before(alloc: Global, tree: &Tree, rest: Tree) -> Result<Tree, OutOfMemory>
+    ensures alike { IfOk result (λ t. AreAlike (Then (pattern_of (node_of tree.now)) (pattern_of (node_of rest))) (pattern_of (node_of t))) }
+{
+    match tree {
+        Tree::Nothing => Ok(rest),
+        Tree::OneOf(set) => {
+            let set = copy(set)?;
+            Ok(pair(alloc, Tree::OneOf(set), rest)?)
+        }
+        Tree::At(edge) => Ok(pair(alloc, Tree::At(*edge), rest)?),
+        Tree::Reference(group) => Ok(pair(alloc, Tree::Reference(*group), rest)?),
+        Tree::Group(_, body) => Ok(before(alloc, body, rest)?),
+        Tree::Around(look, body) => {
+            let body = prepare(alloc, body)?;
+            let item = around(alloc, *look, body)?;
+            Ok(pair(alloc, item, rest)?)
+        }
+        Tree::Times(turns, body) => {
+            let body = prepare(alloc, body)?;
+            let item = times(alloc, *turns, body)?;
+            Ok(pair(alloc, item, rest)?)
+        }
+        Tree::Pair(a, b) => {
+            let rest = before(alloc, b, rest)?;
+            Ok(before(alloc, a, rest)?)
+        }
+        Tree::Choice(a, b) => {
+            let a = prepare(alloc, a)?;
+            let b = prepare(alloc, b)?;
+            let item = choice(alloc, a, b)?;
+            Ok(pair(alloc, item, rest)?)
+        }
+    }
+}
+
+// Returns how many items a sequence has.
+fn count_items(tree: &Tree) -> usize {
+    match tree {
+        Tree::Group(_, body) => count_items(body),
+        Tree::Pair(a, b) => count_items(a).saturating_add(count_items(b)),
+        _ => 1,
+    }
+}
+
+// Returns a copy of a set.
+fn copy(set: &CharSet) -> Result<CharSet, OutOfMemory>
+    ensures spans { IfOk result (λ s. s.spans.items ≡ set.now.spans.items) }
+{
+    let spans = set.spans.clone()?;
+    Ok(CharSet::new(spans))
+}
+
+// Returns the set of the characters in one set or in another.
+fn united(alloc: Global, one: &CharSet, other: &CharSet) -> Result<CharSet, OutOfMemory>
+    ensures spans { IfOk result (λ s. s.spans.items ≡ one.now.spans.items ++ other.now.spans.items) }
+{
+    let mut spans = Vec::new(alloc);
+    spans.extend_from_slice(one.spans.as_slice())?;
+    spans.extend_from_slice(other.spans.as_slice())?;
+    Ok(CharSet::new(spans))
+}
+
+// Returns a lookaround.
+fn around(alloc: Global, look: Look, body: Tree) -> Result<Tree, OutOfMemory>
+    ensures around { IfOk result (λ t. node_of t ≡ Around look (node_of body)) }
+{
+    let body = Box::new(alloc, body)?;
+    Ok(Tree::Around(look, body))
+}
+
+// Returns a repetition.
+fn times(alloc: Global, turns: Turns, body: Tree) -> Result<Tree, OutOfMemory>
+    ensures times { IfOk result (λ t. node_of t ≡ Times turns (node_of body)) }
+{
+    let body = Box::new(alloc, body)?;
+    Ok(Tree::Times(turns, body))
+}
+
+// Returns whether a pattern is the empty one.
+fn is_nothing(tree: &Tree) -> bool
+    ensures nothing { result ≡ true → node_of tree.now ≡ Nothing }
+{
+    match tree {
+        Tree::Nothing => true,
+        _ => false,
+    }
+}
+
+// Returns one pattern after the other.
+fn pair(alloc: Global, first: Tree, rest: Tree) -> Result<Tree, OutOfMemory>
+    ensures alike { IfOk result (λ t. AreAlike (Then (pattern_of (node_of first)) (pattern_of (node_of rest))) (pattern_of (node_of t))) }
+{
+    if is_nothing(&rest) {
+        return Ok(first);
+    }
+    let first = Box::new(alloc, first)?;
+    let rest = Box::new(alloc, rest)?;
+    Ok(Tree::Pair(first, rest))
+}
+
+// Returns the set of two sets of characters, if two patterns are such and it has few spans.
+fn one_set(alloc: Global, a: &Tree, b: &Tree) -> Result<Option<Tree>, OutOfMemory>
+    ensures alike { IfOk result (λ o. IfSome o (λ t. AreAlike (Either (pattern_of (node_of a.now)) (pattern_of (node_of b.now))) (pattern_of (node_of t)))) }
+{
+    let Tree::OneOf(x) = a else {
+        return Ok(None);
+    };
+    let Tree::OneOf(y) = b else {
+        return Ok(None);
+    };
+    if x.spans.len().saturating_add(y.spans.len()) > MOST_SPANS {
+        return Ok(None);
+    }
+    let set = united(alloc, x, y)?;
+    Ok(Some(Tree::OneOf(set)))
+}
+
+// Returns one pattern or the other.
+fn choice(alloc: Global, a: Tree, b: Tree) -> Result<Tree, OutOfMemory>
+    ensures alike { IfOk result (λ t. AreAlike (Either (pattern_of (node_of a)) (pattern_of (node_of b))) (pattern_of (node_of t))) }
+{
+    if let Some(set) = one_set(alloc, &a, &b)? {
+        return Ok(set);
+    }
+    let a = Box::new(alloc, a)?;
+    let b = Box::new(alloc, b)?;
+    Ok(Tree::Choice(a, b))
+}
