@@ -1,10 +1,12 @@
 -- A pattern without back references matches if the relation between positions leads somewhere.
-use Rattle.std.proofs.Common.{◌≡◌, ℕ, Bool, true, false, Option, Some, None, ap, refl, sym, inl, inr, ◌∙◌, true≢false, arith}
+use Rattle.std.proofs.Common.{◌≡◌, ℕ, Bool, true, false, Option, Some, None, ap, refl, subst, sym, inl, inr, ◌∙◌, true≢false, arith}
 use Rattle.std.specs.Prelude.{Err, List, Ok, Result, [], chars, is_some, map, option_map, ◌&&◌, ◌∷◌}
 use Rattle.std.proofs.lemmas.Bool.{cases_Bool}
 use Rattle.std.proofs.lemmas.Bool.Decides.{nat_tests}
 use Rattle.pattern_trees.specs.Matching.{Chars, found}
-use Rattle.pattern_trees.specs.Nodes.{Node, Nothing, OneOf, At, Reference, Group, Around, Times, Pair, Choice}
+use Rattle.pattern_sets.specs.Alike.{AreAlike}
+use Rattle.pattern_trees.specs.Nodes.{Node, Nothing, OneOf, At, Reference, Group, Around, Times, Pair, Choice, node_of}
+use Rattle.pattern_trees.specs.declared.tree.Tree.{Tree}
 use Rattle.pattern_trees.specs.Patterns.{IsFound, IsWithin}
 use Rattle.pattern_trees.specs.Trees.{IsPlain, pattern_of}
 use Rattle.pattern_trees.proofs.Matched.{found-matches}
@@ -15,7 +17,7 @@ use Rattle.pattern_reader.specs.Reading.{Reading, located, read}
 use Rattle.pattern_reader.specs.declared.errors.ReadError.{ReadError}
 use Rattle.theory_definitions.specs.Instance.{Text}
 use Rattle.pattern_matcher.specs.PatternMatching.{fault_text, is_in_order, is_plain, reading_of}
-use Rattle.pattern_matcher.specs.ReadViews.{reading_seen}
+use Rattle.pattern_matcher.specs.ReadViews.{IsPrepared, reading_seen}
 use Rattle.pattern_reader.specs.declared.reader.Pattern.{Pattern}
 
 both : (a b : Bool) → (a && b) ≡ true → (a ≡ true) × (b ≡ true)
@@ -46,6 +48,10 @@ plain-found a p groups s false is isnt = elim (cases_Bool (found a groups s)) [
   | inl there ↦ absurd (isnt refl ((found-matches a (plain a p) groups s).0 there))
   | inr none ↦ sym none
 ]
+
+-- a tree that matches as what was read does, where it is a pattern
+pub prepared_some : (o : Option Pattern) (p : Pattern) (t : Tree) → o ≡ Some p → IsPrepared o t → AreAlike (pattern_of (node_of p.tree)) (pattern_of (node_of t))
+prepared_some o p t e h = subst (λ (q : Option Pattern). IsPrepared q t) e h
 
 -- the code has read a pattern exactly if there is one
 pub some_alike : (o : Option Pattern) (r : Option Reading) → option_map reading_seen o ≡ r → is_some o ≡ is_some r

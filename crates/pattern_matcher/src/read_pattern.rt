@@ -1,15 +1,17 @@
 //! A text and the pattern that it is read as.
-ghost use Rattle.std.specs.Prelude.{◌≡◌, option_map};
+ghost use Rattle.std.specs.Prelude.{◌≡◌, IfOk, option_map};
 ghost use Rattle.schema_reports.specs.Showing.{Shows, Yields};
 ghost use Rattle.unfinished_matches.specs.MatchViews.{match_of};
 ghost use Rattle.pattern_matcher.specs.PatternMatching.{is_readable, match_by, plain_in, refers};
-ghost use Rattle.pattern_matcher.specs.ReadViews.{reading_seen};
+ghost use Rattle.pattern_matcher.specs.ReadViews.{IsPrepared, reading_seen};
 
 use crate::answers::text_match;
 use crate::plain::is_plain;
 use crate::reading::read_pattern;
 use crate::treatment::Treatment;
 use pattern_reader::Pattern;
+use pattern_sets::prepare;
+use pattern_trees::Tree;
 use schema_reports::OutOfMemory;
 use std::alloc::Global;
 use std::marker::Model;
@@ -20,6 +22,8 @@ use unfinished_matches::Match;
 pub struct ReadPattern {
     source: String,
     pattern: Option<Pattern>,
+    // Matches as the pattern does, and is walked faster.
+    prepared: Tree,
     is_plain: bool,
 }
 
@@ -27,14 +31,15 @@ impl Model for ReadPattern {
     ghost use Rattle.std.specs.Prelude.{◌≡◌, option_map, string_bytes};
     ghost use Rattle.theory_definitions.specs.Instance.{Text};
     ghost use Rattle.pattern_matcher.specs.PatternMatching.{plain_in, reading_of};
-    ghost use Rattle.pattern_matcher.specs.ReadViews.{reading_seen};
+    ghost use Rattle.pattern_matcher.specs.ReadViews.{IsPrepared, reading_seen};
 
     ghost Value = { Text };
 
     ghost view = { λ p. string_bytes p.source };
 
     ghost invariant = { λ p. (option_map reading_seen p.pattern ≡ reading_of (string_bytes p.source))
-        × (p.is_plain ≡ plain_in (option_map reading_seen p.pattern)) };
+        × (p.is_plain ≡ plain_in (option_map reading_seen p.pattern))
+        × IsPrepared p.pattern p.prepared };
 }
 
 impl ReadPattern {
@@ -49,9 +54,11 @@ impl ReadPattern {
         let text = String::from_str(alloc, source)?;
         let pattern = read_pattern(alloc, source)?;
         let is_plain = is_plain_in(&pattern);
+        let prepared = prepared_of(alloc, &pattern)?;
         Ok(ReadPattern {
             source: text,
             pattern,
+            prepared,
             is_plain,
         })
     }
@@ -91,9 +98,26 @@ impl ReadPattern {
         ensures answer { Shows match_of result (match_by treatment self.now subject.now) }
     {
         match &self.pattern {
-            Some(pattern) => { text_match(alloc, treatment.limit, self.is_plain, pattern, subject) }
+            Some(pattern) => text_match(
+                alloc,
+                treatment.limit,
+                self.is_plain,
+                pattern,
+                &self.prepared,
+                subject,
+            ),
             None => Ok(treatment.unreadable.answer()),
         }
+    }
+}
+
+// Returns a tree that matches as what was read does, and is walked faster.
+fn prepared_of(alloc: Global, pattern: &Option<Pattern>) -> Result<Tree, OutOfMemory>
+    ensures prepared { IfOk result (λ t. IsPrepared pattern.now t) }
+{
+    match pattern {
+        Some(pattern) => Ok(prepare(alloc, &pattern.tree)?),
+        None => Ok(Tree::Nothing),
     }
 }
 
