@@ -1,7 +1,12 @@
 -- Cutting a text: at the first mark, at each mark, after a character, after digits.
+use Rattle.std.proofs.Common.{Bor}
 use Rattle.std.specs.Prelude.{Bool, List, None, Option, Some, [], drop, false, if◌then◌else◌, option_map, position, take, true, ℕ, ◌+◌, ◌==◌, ◌∷◌}
 use Rattle.std.specs.List.{slice_split}
 use Rattle.text_formats.specs.Characters.{Text, is_digit}
+
+-- a text that was read, if there is one
+abbrev pub text_read : Option (Bor Text) → Option Text
+text_read o = option_map (λ t. t.now) o
 
 abbrev pub is_empty : Text → Bool
 is_empty [] = true

@@ -1,6 +1,7 @@
 //! Cutting a text: at the first mark, after a character, after digits.
 ghost use Rattle.std.specs.Prelude.{◌≡◌, ◌<◌, ◌==◌, IfSome, length, option_map, position, take, drop};
 ghost use Rattle.text_formats.specs.Cutting as spec;
+ghost use Rattle.text_formats.specs.Cutting.{text_read};
 
 use crate::characters::is_digit;
 
@@ -37,7 +38,7 @@ pub fn cut(text: &[u8], mark: u8) -> Option<(&[u8], &[u8])>
 
 /// Returns the text after this character, if the text begins with it.
 pub fn after(text: &[u8], mark: u8) -> Option<&[u8]>
-    ensures after { option_map (λ t. t.now) result ≡ spec.after mark text.now }
+    ensures after { text_read result ≡ spec.after mark text.now }
 {
     match text {
         [first, rest @ ..] if *first == mark => Some(rest),
@@ -60,7 +61,7 @@ pub fn past_digits(text: &[u8]) -> &[u8]
 
 // Returns the text after its first digits, if it begins with one or more.
 pub(crate) fn after_digits(text: &[u8]) -> Option<&[u8]>
-    ensures after { option_map (λ t. t.now) result ≡ spec.after_digits text.now }
+    ensures after { text_read result ≡ spec.after_digits text.now }
 {
     match text {
         [first, rest @ ..] if is_digit(*first) => Some(past_digits(rest)),

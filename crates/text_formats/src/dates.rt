@@ -1,6 +1,7 @@
 //! Dates and times of day. (RFC 3339, section 5.6)
-ghost use Rattle.std.specs.Prelude.{◌≡◌, ◌≤◌, ◌<◌, IfSome, option_map};
+ghost use Rattle.std.specs.Prelude.{◌≡◌, ◌≤◌, ◌<◌, IfSome};
 ghost use Rattle.text_formats.specs.Dates as spec;
+ghost use Rattle.text_formats.specs.Cutting.{text_read};
 
 use crate::characters::{fits, four, two};
 use crate::cutting::{after_digits, split};
@@ -72,7 +73,7 @@ fn offset(text: &[u8]) -> Option<u32>
 
 // Returns the text after a fraction of a second, or the text itself if it has no decimal point.
 fn after_fraction(text: &[u8]) -> Option<&[u8]>
-    ensures after { option_map (λ t. t.now) result ≡ spec.after_fraction text.now }
+    ensures after { text_read result ≡ spec.after_fraction text.now }
 {
     match text {
         [b'.', rest @ ..] => after_digits(rest),
@@ -81,7 +82,7 @@ fn after_fraction(text: &[u8]) -> Option<&[u8]>
 }
 
 fn offset_after(text: Option<&[u8]>) -> Option<u32>
-    ensures offset { result ≡ spec.offset_after (option_map (λ t. t.now) text.entry) }
+    ensures offset { result ≡ spec.offset_after (text_read text.entry) }
     ensures small { IfSome result (λ n. n ≤ 1440) }
 {
     match text {

@@ -1,12 +1,13 @@
 //! Durations. (RFC 3339, appendix A)
-ghost use Rattle.std.specs.Prelude.{◌≡◌, option_map};
+ghost use Rattle.std.specs.Prelude.{◌≡◌};
 ghost use Rattle.text_formats.specs.Durations as spec;
+ghost use Rattle.text_formats.specs.Cutting.{text_read};
 
 use crate::cutting::after_digits;
 
 // Returns the text after this letter, capital or small, if the text begins with it.
 fn after_letter(letter: u8, text: &[u8]) -> Option<&[u8]>
-    ensures after { option_map (λ t. t.now) result ≡ spec.after_letter letter text.now }
+    ensures after { text_read result ≡ spec.after_letter letter text.now }
 {
     match text {
         [first, rest @ ..] if first.eq_ignore_ascii_case(&letter) => Some(rest),
@@ -16,7 +17,7 @@ fn after_letter(letter: u8, text: &[u8]) -> Option<&[u8]>
 
 // Returns the text after one or more digits and a unit.
 fn after_count(text: &[u8], unit: u8) -> Option<&[u8]>
-    ensures after { option_map (λ t. t.now) result ≡ spec.after_count unit text.now }
+    ensures after { text_read result ≡ spec.after_count unit text.now }
 {
     match after_digits(text) {
         Some(rest) => after_letter(unit, rest),

@@ -2,11 +2,12 @@
 //!
 //! RFC 5321, sections 4.1.2 and 4.1.3; RFC 6531, section 3.3. If `wide` is true, the addresses are
 //! internationalized: characters outside ASCII are allowed.
-ghost use Rattle.std.specs.Prelude.{◌≡◌, codes, option_map};
+ghost use Rattle.std.specs.Prelude.{◌≡◌, codes};
 ghost use Rattle.std.specs.List.{list_all};
 ghost use Rattle.std.specs.Str.{str_eq_ignore_ascii_case};
 ghost use Rattle.text_formats.specs.Cutting as Cutting;
 ghost use Rattle.text_formats.specs.Emails as spec;
+ghost use Rattle.text_formats.specs.Cutting.{text_read};
 
 use crate::addresses::{is_mail_ipv4, is_mail_ipv6};
 use crate::characters::{is_digit, is_letter};
@@ -44,7 +45,7 @@ fn is_quoted_character(wide: bool, byte: u8) -> bool
 
 // Returns the text after the quotation mark that closes a quoted text.
 fn after_quoted(wide: bool, text: &[u8]) -> Option<&[u8]>
-    ensures after { option_map (λ t. t.now) result ≡ spec.after_quoted wide text.now }
+    ensures after { text_read result ≡ spec.after_quoted wide text.now }
 {
     let mut rest = text;
     loop {
@@ -58,7 +59,7 @@ fn after_quoted(wide: bool, text: &[u8]) -> Option<&[u8]>
 }
 
 fn after_dot_string(wide: bool, text: &[u8]) -> Option<&[u8]>
-    ensures after { option_map (λ t. t.now) result ≡ spec.after_dot_string wide (Cutting.cut 64 text.now) }
+    ensures after { text_read result ≡ spec.after_dot_string wide (Cutting.cut 64 text.now) }
 {
     match cut(text, b'@') {
         Some((front, back)) if Part::Atom(wide).is_each(front, b'.') => Some(back),
@@ -68,7 +69,7 @@ fn after_dot_string(wide: bool, text: &[u8]) -> Option<&[u8]>
 
 // Returns the text after a local part and `@`.
 fn after_local_part(wide: bool, text: &[u8]) -> Option<&[u8]>
-    ensures after { option_map (λ t. t.now) result ≡ spec.after_local_part wide text.now }
+    ensures after { text_read result ≡ spec.after_local_part wide text.now }
 {
     match text {
         [b'"', rest @ ..] => match after_quoted(wide, rest) {

@@ -1,9 +1,10 @@
 //! Internationalized resource identifiers. (RFC 3987)
-ghost use Rattle.std.specs.Prelude.{◌≡◌, option_map};
+ghost use Rattle.std.specs.Prelude.{◌≡◌};
 ghost use Rattle.std.specs.List.{list_all};
 ghost use Rattle.std.specs.Str.{chars};
 ghost use Rattle.uri_references.specs.Views.{components_of};
 ghost use Rattle.text_formats.specs.Iris as spec;
+ghost use Rattle.text_formats.specs.Cutting.{text_read};
 
 use crate::uris::fit;
 use uri_references::Components;
@@ -52,7 +53,7 @@ pub(crate) fn are_of_query(text: &str) -> bool
 }
 
 fn universal_fits(text: Option<&str>) -> bool
-    ensures fits { result ≡ spec.universal_fits (option_map (λ t. t.now) text.entry) }
+    ensures fits { result ≡ spec.universal_fits (text_read text.entry) }
 {
     match text {
         Some(text) => are_universal_or_ascii(text),
@@ -61,7 +62,7 @@ fn universal_fits(text: Option<&str>) -> bool
 }
 
 fn query_fits(text: Option<&str>) -> bool
-    ensures fits { result ≡ spec.query_fits (option_map (λ t. t.now) text.entry) }
+    ensures fits { result ≡ spec.query_fits (text_read text.entry) }
 {
     match text {
         Some(text) => are_of_query(text),

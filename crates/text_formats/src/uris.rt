@@ -1,9 +1,10 @@
 //! Uniform resource identifiers, and references to them. (RFC 3986; RFC 3987)
-ghost use Rattle.std.specs.Prelude.{◌≡◌, option_map};
+ghost use Rattle.std.specs.Prelude.{◌≡◌};
 ghost use Rattle.std.specs.List.{list_all};
 ghost use Rattle.uri_references.specs.Views.{components_of};
 ghost use Rattle.text_formats.specs.Cutting as Cutting;
 ghost use Rattle.text_formats.specs.Uris as spec;
+ghost use Rattle.text_formats.specs.Cutting.{text_read};
 
 use crate::addresses::is_ipv6_in;
 use crate::characters::{are_digits, are_hex_digits, is_digit, is_hex_digit, is_letter};
@@ -204,7 +205,7 @@ fn is_authority(wide: bool, text: &[u8]) -> bool
 }
 
 fn scheme_fits(scheme: Option<&str>) -> bool
-    ensures fits { result ≡ spec.scheme_fits (option_map (λ t. t.now) scheme.entry) }
+    ensures fits { result ≡ spec.scheme_fits (text_read scheme.entry) }
 {
     match scheme {
         Some(scheme) => is_scheme(scheme.as_bytes()),
@@ -213,7 +214,7 @@ fn scheme_fits(scheme: Option<&str>) -> bool
 }
 
 fn authority_fits(wide: bool, authority: Option<&str>) -> bool
-    ensures fits { result ≡ spec.authority_fits wide (option_map (λ t. t.now) authority.entry) }
+    ensures fits { result ≡ spec.authority_fits wide (text_read authority.entry) }
 {
     match authority {
         Some(authority) => is_authority(wide, authority.as_bytes()),
@@ -222,7 +223,7 @@ fn authority_fits(wide: bool, authority: Option<&str>) -> bool
 }
 
 fn end_fits(wide: bool, end: Option<&str>) -> bool
-    ensures fits { result ≡ spec.end_fits wide (option_map (λ t. t.now) end.entry) }
+    ensures fits { result ≡ spec.end_fits wide (text_read end.entry) }
 {
     match end {
         Some(end) => Class::Fragment.makes(wide, end.as_bytes()),
