@@ -1,4 +1,5 @@
 pub mod AskedTold
+mod Meant
 mod ToldAlike
 pub mod PropertyCounts
 pub mod MissingNames

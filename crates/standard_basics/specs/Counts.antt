@@ -27,11 +27,19 @@ abbrev pub member_count : Members → ℕ
 member_count no_members = 0
 member_count (member k d ms) = member_count ms + 1
 
+-- the number of characters, if the subject is a text or a name
+abbrev pub text_length : Subject → Option ℕ
+text_length s = option_map (λ t. length (chars t)) (subject_string s)
+
+-- the number of members, if the subject is an object
+abbrev pub members_count : Subject → Option ℕ
+members_count s = option_map member_count (subject_members s)
+
 -- the count, if the keyword applies to the subject
 abbrev pub count_of : CountKind → Subject → Option ℕ
-count_of MinLength s = option_map (λ t. length (chars t)) (subject_string s)
-count_of MaxLength s = option_map (λ t. length (chars t)) (subject_string s)
-count_of MinProperties s = option_map member_count (subject_members s)
+count_of MinLength s = text_length s
+count_of MaxLength s = text_length s
+count_of MinProperties s = members_count s
 
 abbrev pub allows : CountKind → ℕ → ℕ → Bool
 allows MinLength n count = nat_le n count
@@ -60,5 +68,9 @@ many_counted MinLength = codes " characters"
 many_counted MaxLength = codes " characters"
 many_counted MinProperties = codes " properties"
 
+-- the words after the limit
+abbrev pub counted : CountKind → ℕ → Text
+counted kind n = if n == 1 then one_counted kind else many_counted kind
+
 abbrev pub count_text : CountKind → ℕ → Subject → Text
-count_text kind n s = subject_text s ++ count_words kind ++ decimal n ++ (if n == 1 then one_counted kind else many_counted kind)
+count_text kind n s = subject_text s ++ count_words kind ++ decimal n ++ counted kind n

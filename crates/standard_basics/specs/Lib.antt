@@ -9,5 +9,15 @@ pub mod VerdictsAsked
 pub mod Grows
 pub mod Telling
 pub mod RunWays
+pub mod TakenTurns
 pub mod Makers
 pub mod MakerLaws
+pub mod MakerWords
+pub mod ValueTypes
+pub mod WantedMembers
+pub mod FittingMembers
+pub mod FittingItems
+pub mod Measures
+pub mod MatchedTexts
+pub mod OwnErrors
+pub mod Meanings

@@ -62,9 +62,13 @@ has_prefix draft_2020_12 = true
 has_prefix draft_unknown = true
 has_prefix _ = false
 
+-- the number of schemas of `prefixItems`
+abbrev pub prefix_length : Members → ℕ
+prefix_length ms = count_in (option_and_then as_array (get_member (codes "prefixItems") ms))
+
 -- the number of items that `items` skips
 abbrev pub items_before : Draft → Members → ℕ
-items_before draft ms = if has_prefix draft then count_in (option_and_then as_array (get_member (codes "prefixItems") ms)) else 0
+items_before draft ms = if has_prefix draft then prefix_length ms else 0
 
 -- in the other drafts, a list makes no keyword
 abbrev pub is_older_list : Draft → Data → Bool

@@ -1,5 +1,6 @@
 -- The types that a value may have. (Core 2020-12, 4.2.1; Validation 2020-12, 6.1.1)
 use Rattle.std.specs.Prelude.{Bool, List, None, Option, Some, [], bytes_eq, true, false, if◌then◌else◌, ◌||◌, ◌∷◌, codes, is_some, option_and_then}
+use Rattle.std.specs.List.{list_any}
 use Rattle.serde_json.specs.Data.{Data, Items, item, no_items}
 use Rattle.serde_json.specs.Find.{as_null, as_bool, as_number, as_str, as_array, as_object, as_i64, as_u64}
 use Rattle.theory_definitions.specs.Instance.{Text, Subject, a_value, a_name}
@@ -32,6 +33,10 @@ fits type.Integer (a_name k) = false
 fits type.Number (a_name k) = false
 fits type.Array (a_name k) = false
 fits type.Object (a_name k) = false
+
+-- whether the subject has one of the types
+abbrev pub fits_one : List TypeName → Subject → Bool
+fits_one ts s = list_any (λ t. fits t s) ts
 
 -- the type with this name
 abbrev pub type_named : Text → Option TypeName

@@ -1,5 +1,4 @@
 -- The meaning of each basic keyword: what it reports of an instance.
-use Rattle.std.specs.List.{list_any}
 use Rattle.std.specs.Prelude.{Bool, List, None, Option, Some, [], codes, false, filter, is_some, map, min, not, ℕ, ◌++◌, ◌-◌, ◌&&◌, ◌∷◌}
 use Rattle.serde_json.specs.Data.{Members}
 use Rattle.serde_json.specs.Find.{as_object}
@@ -12,7 +11,7 @@ use Rattle.theory_definitions.specs.Meaning.{subject_text}
 use Rattle.standard_basics.specs.declared.names.NamesRun.{NamesRun}
 use Rattle.standard_basics.specs.declared.type_names.TypeName.{TypeName}
 use Rattle.keyword_authoring.specs.declared.run.Progress.{Progress}
-use Rattle.standard_basics.specs.TypeNames.{fits, type_name}
+use Rattle.standard_basics.specs.TypeNames.{fits, fits_one, type_name}
 use Rattle.keyword_authoring.specs.Members.{at_name, has_member, is_object, members_from, only_if, subject_names}
 use Rattle.standard_basics.specs.BasicShape.{BasicShape, applies, has_count, has_items, has_pattern, has_prefix_items, has_properties, has_property_names, has_type, has_types, requires}
 use Rattle.standard_basics.specs.Counts.{count_fits, count_name, count_text, subject_string}
@@ -63,7 +62,7 @@ pattern_way texts pattern s (Some text) = asks_match (codes "pattern") (record {
 
 abbrev pub way : Bool → BasicShape → Subject → Way
 way texts (has_type t) s = tells (codes "type") (map (spoken texts) (unless (fits t s) (type_text t s)))
-way texts (has_types ts) s = tells (codes "type") (map (spoken texts) (unless (list_any (λ t. fits t s) ts) (types_text ts s)))
+way texts (has_types ts) s = tells (codes "type") (map (spoken texts) (unless (fits_one ts s) (types_text ts s)))
 way texts (requires ks) s = tells (codes "required") (map (λ k. spoken texts (required_text k)) (missing ks s))
 way texts (has_properties ks) s = passes_some (members_from 0 ks s)
 way texts (has_count kind n) s = tells (count_name kind) (map (spoken texts) (unless (count_fits kind n s) (count_text kind n s)))

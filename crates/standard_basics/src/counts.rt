@@ -1,12 +1,12 @@
 //! The keywords that count: `minLength`, `maxLength` and `minProperties`.
-ghost use Rattle.std.specs.Prelude.{◌≡◌, ◌==◌, decimal, length, option_map, if◌then◌else◌, IfOk};
+ghost use Rattle.std.specs.Prelude.{◌≡◌, decimal, length, IfOk};
 ghost use Rattle.std.specs.Str.{chars};
 ghost use Rattle.schema_reports.specs.InstanceViews.{subject_of};
-ghost use Rattle.standard_basics.specs.Counts.{allows, count_fits, count_name, count_of, count_text, count_words, many_counted};
-ghost use Rattle.standard_basics.specs.Counts.{member_count, one_counted, subject_members, subject_string};
+ghost use Rattle.standard_basics.specs.Counts.{allows, count_fits, count_name, count_of, count_text, count_words, counted};
+ghost use Rattle.standard_basics.specs.Counts.{member_count, members_count, text_length};
 ghost use Rattle.standard_basics.specs.BasicShape.{has_count};
-ghost use Rattle.keyword_authoring.specs.TextWords.{Adds, ShowsText};
-ghost use Rattle.standard_basics.specs.Telling.{TellsOwn};
+ghost use Rattle.keyword_authoring.specs.TextWords.{ShowsText};
+ghost use Rattle.standard_basics.specs.Telling.{Adds, TellsOwn};
 ghost use Rattle.keyword_authoring.specs.Borrowing.{Retains};
 ghost use Rattle.schema_traits.specs.Readings.{fields};
 
@@ -49,7 +49,7 @@ impl CountKind {
 
     /// Returns the words after the limit.
     fn counted(self, limit: u64) -> &'static str
-        ensures counted { result.now ≡ (if limit == 1 then one_counted self else many_counted self) }
+        ensures counted { result.now ≡ counted self limit }
     {
         if limit == 1 {
             match self {
@@ -96,7 +96,7 @@ fn length_of(text: &str) -> usize
 
 /// Returns the number of characters if the instance is a text or a name.
 fn text_length(instance: Instance<'_>) -> Option<usize>
-    ensures length { result ≡ option_map (λ t. length (chars t)) (subject_string (subject_of instance.entry)) }
+    ensures length { result ≡ text_length (subject_of instance.entry) }
 {
     match instance {
         Instance::Name(name) => Some(length_of(name)),
@@ -109,7 +109,7 @@ fn text_length(instance: Instance<'_>) -> Option<usize>
 
 /// Returns the number of members if the instance is an object.
 pub fn members_count(instance: Instance<'_>) -> Option<usize>
-    ensures count { result ≡ option_map member_count (subject_members (subject_of instance.entry)) }
+    ensures count { result ≡ members_count (subject_of instance.entry) }
 {
     match instance {
         Instance::Name(_) => None,
@@ -161,7 +161,7 @@ pub fn count_text(
 
 /// Appends a number in decimal.
 pub fn push_decimal(text: &mut String, number: u64) -> Result<(), OutOfMemory>
-    ensures decimal { IfOk result (λ _. Adds (decimal number) text.old text.new) }
+    ensures decimal { Adds result text.old text.new (decimal number) }
 {
     write!(text, "{number}")
 }
@@ -175,7 +175,7 @@ pub fn tell_count<'i>(
     instance: Instance<'i>,
     answer: &mut Answer<'i>,
 ) -> Result<(), OutOfMemory>
-    ensures told { IfOk result (λ _. TellsOwn (has_count kind limit) instance.entry mode answer.old answer.new) }
+    ensures told { TellsOwn (has_count kind limit) instance.entry mode answer.old answer.new result }
     ensures borrows { Retains answer.old answer.new result }
 {
     if count_fits(kind, limit, instance) {

@@ -5,8 +5,8 @@ ghost use Rattle.schema_traits.specs.KeywordViews.{turn_of};
 ghost use Rattle.keyword_authoring.specs.Items.{child_at_item, first_at_item, item_count};
 ghost use Rattle.keyword_authoring.specs.Ways.{asked};
 ghost use Rattle.standard_basics.specs.BasicShape.{has_items, has_prefix_items};
-ghost use Rattle.keyword_authoring.specs.TurnWords.{StepsBy, TurnsBy};
 ghost use Rattle.standard_basics.specs.RunWays.{as_shape};
+ghost use Rattle.standard_basics.specs.TakenTurns.{IsTurnBy};
 ghost use Rattle.keyword_authoring.specs.Borrowing.{Borrows};
 
 use keyword_authoring::{Progress, item_count, next_number};
@@ -34,7 +34,7 @@ fn ask_first_at_item<'s>(number: Option<usize>, mode: Mode) -> Step<'s>
     }
 }
 
-/// Takes a turn of `prefixItems`, which evaluates child N at item N.
+/// IsTurnBy a turn of `prefixItems`, which evaluates child N at item N.
 pub fn turn_prefix_items<'s, 'i>(
     alloc: Global,
     children: usize,
@@ -43,8 +43,7 @@ pub fn turn_prefix_items<'s, 'i>(
     reply: Reply<'i>,
     answer: &mut Answer<'i>,
 ) -> Result<Step<'s>, OutOfMemory>
-    ensures turns { TurnsBy (as_shape (has_prefix_items children)) instance.entry run.old answer.old reply.entry run.new answer.new result }
-    ensures steps { StepsBy (as_shape (has_prefix_items children)) instance.entry run.old answer.old reply.entry result }
+    ensures turn { IsTurnBy (as_shape (has_prefix_items children)) instance.entry run.old answer.old reply.entry run.new answer.new result }
     ensures borrows { Borrows reply.entry answer.old answer.new result }
 {
     let count = prefix_count(children, instance);
@@ -53,7 +52,7 @@ pub fn turn_prefix_items<'s, 'i>(
     Ok(ask_child_at_item(number, mode))
 }
 
-/// Takes a turn of `items`.
+/// IsTurnBy a turn of `items`.
 ///
 /// The keyword evaluates its child at each item after the first `before`.
 pub fn turn_items<'s, 'i>(
@@ -64,8 +63,7 @@ pub fn turn_items<'s, 'i>(
     reply: Reply<'i>,
     answer: &mut Answer<'i>,
 ) -> Result<Step<'s>, OutOfMemory>
-    ensures turns { TurnsBy (as_shape (has_items before)) instance.entry run.old answer.old reply.entry run.new answer.new result }
-    ensures steps { StepsBy (as_shape (has_items before)) instance.entry run.old answer.old reply.entry result }
+    ensures turn { IsTurnBy (as_shape (has_items before)) instance.entry run.old answer.old reply.entry run.new answer.new result }
     ensures borrows { Borrows reply.entry answer.old answer.new result }
 {
     let count = items_after(before, instance);

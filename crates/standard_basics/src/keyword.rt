@@ -3,7 +3,7 @@
 //! All keywords are variants of one enum. As a join of two keyword types, each call made one choice
 //! more, and took 1.09 to 1.13 times the instructions. A run of `propertyNames` holds the names at
 //! which it evaluates its child; counting from the first member in each turn took quadratic time.
-ghost use Rattle.std.specs.Prelude.{◌≡◌, IfOk};
+ghost use Rattle.std.specs.Prelude.{◌≡◌, IfOk, OnOk};
 ghost use Rattle.schema_reports.specs.InstanceViews.{subject_of};
 ghost use Rattle.schema_traits.specs.KeywordViews.{mode_of, turn_of};
 ghost use Rattle.theory_definitions.specs.Keywords.{done};
@@ -92,7 +92,7 @@ fn tell<'i>(
     instance: Instance<'i>,
     answer: &mut Answer<'i>,
 ) -> Result<(), OutOfMemory>
-    ensures told { IfOk result (λ _. TellsOwn (shape_of keyword.now) instance.entry mode answer.old answer.new) }
+    ensures told { TellsOwn (shape_of keyword.now) instance.entry mode answer.old answer.new result }
     ensures borrows { Retains answer.old answer.new result }
 {
     match keyword {
@@ -120,8 +120,8 @@ fn turn_telling<'s, 'i>(
     reply: Reply<'i>,
     answer: &mut Answer<'i>,
 ) -> Result<Step<'s>, OutOfMemory>
-    ensures stage { IfOk result (λ _. run.new ≡ record run.old { stage = Ended }) }
-    ensures told { IfOk result (λ _. TellsFirst (shape_of keyword.now) instance.entry run.old answer.old answer.new) }
+    ensures stage { OnOk result (run.new ≡ record run.old { stage = Ended }) }
+    ensures told { TellsFirst (shape_of keyword.now) instance.entry run.old answer.old answer.new result }
     ensures step { Shows turn_of result done }
     ensures borrows { Borrows reply.entry answer.old answer.new result }
 {

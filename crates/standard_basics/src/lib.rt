@@ -1,13 +1,15 @@
 //! The basic keywords, such as `type`, `required`, `properties` and `items`.
 //!
-//! Each evaluates an instance in one of the kinds that `keyword_authoring` offers. The five that
-//! combine schemas take their definitions and turns from `schema_applicators`.
+//! Each evaluates an instance in one of the kinds that `keyword_authoring` offers. The meaning of
+//! each is a definition of its own, and the module `meanings` states that the keywords have these
+//! meanings. The five that combine schemas take theirs, and their turns, from `schema_applicators`.
 #![tactic(auto)]
 
 mod cloning;
 mod counts;
 mod each;
 mod keyword;
+mod meanings;
 mod names;
 mod pattern;
 mod properties;
@@ -21,6 +23,10 @@ mod types;
 pub use counts::{CountKind, count_fits, count_text, members_count, push_decimal, tell_count};
 pub use each::{turn_items, turn_prefix_items};
 pub use keyword::{BasicKeyword, Shape};
+pub use meanings::{
+    counts_mean, items_mean, pattern_means, prefix_items_mean, properties_mean,
+    property_names_mean, required_means, type_means,
+};
 pub use names::{Names, NamesRun};
 pub use pattern::turn_pattern;
 pub use properties::{asks_none, turn_properties};

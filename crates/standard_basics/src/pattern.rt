@@ -35,7 +35,7 @@ fn tell_pattern<'i>(
     instance: Instance<'i>,
     answer: &mut Answer<'i>,
 ) -> Result<(), OutOfMemory>
-    ensures told { IfOk result (λ _. TellsMatch matches pattern.now instance.entry mode answer.old answer.new) }
+    ensures told { TellsMatch matches pattern.now instance.entry mode answer.old answer.new result }
     ensures borrows { Retains answer.old answer.new result }
 {
     if matches {

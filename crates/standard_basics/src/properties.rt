@@ -1,11 +1,10 @@
 //! The keyword `properties`.
-ghost use Rattle.std.specs.Prelude.{◌≡◌, None, map, option_map, true};
+ghost use Rattle.std.specs.Prelude.{◌≡◌, None, option_map, true};
 ghost use Rattle.std.specs.Rc.{rc_str_bytes};
 ghost use Rattle.keyword_authoring.specs.Somes.{some_from};
-ghost use Rattle.standard_basics.specs.BasicShape.{has_properties};
 ghost use Rattle.keyword_authoring.specs.SomeWords.{AsksSome, StandsAtSome};
-ghost use Rattle.keyword_authoring.specs.TurnWords.{StepsBy, TurnsBy};
-ghost use Rattle.standard_basics.specs.RunWays.{as_shape, at_members, member_asked};
+ghost use Rattle.standard_basics.specs.RunWays.{at_members, member_asked, on_members};
+ghost use Rattle.standard_basics.specs.TakenTurns.{IsTurnBy};
 ghost use Rattle.keyword_authoring.specs.Borrowing.{Borrows};
 
 use keyword_authoring::{Progress, Stage, has_member, onward};
@@ -14,7 +13,7 @@ use schema_traits::{Answer, Below, Reply, Step};
 use std::alloc::Global;
 use std::rc::RcStr;
 
-/// Takes a turn of `properties`.
+/// IsTurnBy a turn of `properties`.
 ///
 /// The keyword evaluates a child at each named member that is present.
 #[inline(always)]
@@ -26,9 +25,7 @@ pub fn turn_properties<'s, 'i>(
     reply: Reply<'i>,
     answer: &mut Answer<'i>,
 ) -> Result<Step<'s>, OutOfMemory>
-    ensures turns { TurnsBy (as_shape (has_properties (map rc_str_bytes names.now))) instance.entry run.old answer.old reply.entry run.new
-        answer.new result }
-    ensures steps { StepsBy (as_shape (has_properties (map rc_str_bytes names.now))) instance.entry run.old answer.old reply.entry result }
+    ensures turn { IsTurnBy (on_members rc_str_bytes names.now) instance.entry run.old answer.old reply.entry run.new answer.new result }
     ensures borrows { Borrows reply.entry answer.old answer.new result }
 {
     let start = onward(alloc, names.len(), run, reply, answer)?;
@@ -37,7 +34,7 @@ pub fn turn_properties<'s, 'i>(
 
 /// Returns whether the instance has no members, so that no child is evaluated.
 pub fn asks_none(names: &[RcStr], instance: Instance<'_>) -> bool
-    ensures none { result ≡ true → some_from 0 (at_members (map rc_str_bytes names.now) instance.entry) ≡ None }
+    ensures none { result ≡ true → some_from 0 (at_members rc_str_bytes names.now instance.entry) ≡ None }
 {
     !may_have_members(instance) && first_present(names, 0, instance).is_none()
 }
@@ -63,8 +60,8 @@ fn ask_member<'s>(
     run: &mut Progress,
     instance: Instance<'_>,
 ) -> Step<'s>
-    ensures stage { StandsAtSome (at_members (map rc_str_bytes names.now) instance.entry) start run.old run.new }
-    ensures step { AsksSome (at_members (map rc_str_bytes names.now) instance.entry) start run.old.mode result }
+    ensures stage { StandsAtSome (at_members rc_str_bytes names.now instance.entry) start run.old run.new }
+    ensures step { AsksSome (at_members rc_str_bytes names.now instance.entry) start run.old.mode result }
 {
     match start {
         None => {
@@ -94,7 +91,7 @@ fn first_present<'s>(
     instance: Instance<'_>,
 ) -> Option<(usize, &'s str)>
     ensures present { option_map (λ p. (p.0, member_asked p.0 p.1.now)) result
-        ≡ some_from start (at_members (map rc_str_bytes names.now) instance.entry) }
+        ≡ some_from start (at_members rc_str_bytes names.now instance.entry) }
 {
     for child in start..names.len() {
         let name = names[child].as_str();

@@ -1,13 +1,12 @@
 //! The keyword `propertyNames`.
-ghost use Rattle.std.specs.Prelude.{◌≡◌, Some, map, option_map, string_bytes};
+ghost use Rattle.std.specs.Prelude.{◌≡◌, Some, option_map};
 ghost use Rattle.schema_reports.specs.InstanceViews.{subject_of};
 ghost use Rattle.keyword_authoring.specs.Members.{at_name, only_if};
 ghost use Rattle.keyword_authoring.specs.Somes.{some_from};
 ghost use Rattle.standard_basics.specs.Words.{is_named, name_asked};
-ghost use Rattle.standard_basics.specs.BasicShape.{has_property_names};
 ghost use Rattle.keyword_authoring.specs.SomeWords.{AsksSome, StandsAtSome};
-ghost use Rattle.keyword_authoring.specs.TurnWords.{StepsBy, TurnsBy};
-ghost use Rattle.standard_basics.specs.RunWays.{at_names, holding};
+ghost use Rattle.standard_basics.specs.RunWays.{at_names, on_names};
+ghost use Rattle.standard_basics.specs.TakenTurns.{IsTurnBy};
 ghost use Rattle.keyword_authoring.specs.Borrowing.{Borrows};
 ghost use Rattle.schema_traits.specs.Readings.{fields};
 
@@ -90,7 +89,7 @@ fn ask_name<'i>(
     }
 }
 
-/// Takes a turn of `propertyNames`.
+/// IsTurnBy a turn of `propertyNames`.
 ///
 /// The keyword evaluates its child at each of the names that a member has.
 #[inline(always)]
@@ -102,9 +101,7 @@ pub fn turn_property_names<'i>(
     reply: Reply<'i>,
     answer: &mut Answer<'i>,
 ) -> Result<Step<'i>, OutOfMemory>
-    ensures turns { TurnsBy (holding (map string_bytes names.now) has_property_names) instance.entry run.old answer.old reply.entry
-        run.new answer.new result }
-    ensures steps { StepsBy (holding (map string_bytes names.now) has_property_names) instance.entry run.old answer.old reply.entry result }
+    ensures turn { IsTurnBy (on_names names.now) instance.entry run.old answer.old reply.entry run.new answer.new result }
     ensures borrows { Borrows reply.entry answer.old answer.new result }
 {
     let start = onward(alloc, names.len(), run, reply, answer)?;

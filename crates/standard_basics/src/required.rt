@@ -1,9 +1,8 @@
 //! The keyword `required`.
-ghost use Rattle.std.specs.Prelude.{◌≡◌, map, string_bytes, IfOk};
-ghost use Rattle.std.specs.List.{list_any};
+ghost use Rattle.std.specs.Prelude.{◌≡◌, map, string_bytes};
 ghost use Rattle.schema_reports.specs.InstanceViews.{subject_of};
 ghost use Rattle.standard_basics.specs.Words.{required_text, lacks};
-ghost use Rattle.standard_basics.specs.Telling.{TellsMissing};
+ghost use Rattle.standard_basics.specs.Telling.{TellsMissing, lacks_one};
 ghost use Rattle.schema_traits.specs.Showing.{Shows};
 ghost use Rattle.keyword_authoring.specs.Borrowing.{Retains};
 
@@ -20,7 +19,7 @@ pub fn tell_required<'i>(
     instance: Instance<'i>,
     answer: &mut Answer<'i>,
 ) -> Result<(), OutOfMemory>
-    ensures told { IfOk result (λ _. TellsMissing (map string_bytes names.now) instance.entry mode answer.old answer.new) }
+    ensures told { TellsMissing (map string_bytes names.now) instance.entry mode answer.old answer.new result }
     ensures borrows { Retains answer.old answer.new result }
 {
     if mode == Mode::Verdict {
@@ -40,7 +39,7 @@ pub fn tell_required<'i>(
 
 /// Returns whether the instance is an object that lacks one of these members.
 pub fn lacks_one(names: &[String], instance: Instance<'_>) -> bool
-    ensures lacks { result ≡ list_any (λ k. lacks (string_bytes k) (subject_of instance.entry)) names.now }
+    ensures lacks { result ≡ lacks_one names.now instance.entry }
 {
     names.iter().any(|name| is_missing(name, instance))
 }

@@ -1,16 +1,10 @@
 //! The table of the basic keywords.
-ghost use Rattle.std.specs.Prelude.{IfOk, codes};
-ghost use Rattle.serde_json.specs.Find.{get_member};
 ghost use Rattle.serde_json.specs.View.{view};
-ghost use Rattle.schema_drafts.specs.KeywordViews.{builtin_text, draft_of};
-ghost use Rattle.schema_applicators.specs.ApplicatorShape.{has_if};
-ghost use Rattle.keyword_makers.specs.Branches.{has_branch, if_script};
-ghost use Rattle.keyword_makers.specs.MakerViews.{Begins, waiting_of};
+ghost use Rattle.keyword_makers.specs.MakerViews.{waiting_of};
 ghost use Rattle.keyword_makers.specs.Making.{makes_if};
-ghost use Rattle.standard_basics.specs.BasicShape.{applies};
-ghost use Rattle.standard_basics.specs.Makers.{count_shape, items_script, member_script, properties_script, value_script};
+ghost use Rattle.standard_basics.specs.MakerWords.{Follows, script_of_if, script_of_items, script_of_member, script_of_value};
+ghost use Rattle.standard_basics.specs.Makers.{count_shape, properties_script};
 ghost use Rattle.standard_basics.specs.Shapes.{shape_of};
-ghost use Rattle.schema_traits.specs.Readings.{fields};
 
 pub mod keyword_values;
 pub mod schema_values;
@@ -44,7 +38,7 @@ fn properties_maker(
     name: &str,
     value: &Value,
 ) -> Result<PathsMaker<BasicKeyword>, OutOfMemory>
-    ensures maker { IfOk result (Begins shape_of (properties_script name.now (view value.now))) }
+    ensures maker { Follows result (properties_script name.now (view value.now)) }
 {
     match value.as_object() {
         Some(members) => {
@@ -64,7 +58,7 @@ fn items_maker(
     object: &Map<String, Value>,
     draft: Draft,
 ) -> Result<PathsMaker<BasicKeyword>, OutOfMemory>
-    ensures maker { IfOk result (Begins shape_of (items_script (draft_of draft) (fields object.now) name.now (view value.now))) }
+    ensures maker { Follows result (script_of_items draft object.now name.now value.now) }
 {
     if is_older_list(draft, value) {
         return Ok(ends(alloc, Ending::Nothing));
@@ -80,7 +74,7 @@ fn count_maker(
     name: &str,
     value: &Value,
 ) -> Result<PathsMaker<BasicKeyword>, OutOfMemory>
-    ensures maker { IfOk result (Begins shape_of (makes_if name.now (view value.now) (count_shape kind (view value.now)))) }
+    ensures maker { Follows result (makes_if name.now (view value.now) (count_shape kind (view value.now))) }
 {
     makes_if(alloc, name, value, count_keyword(kind, value))
 }
@@ -91,8 +85,7 @@ fn if_maker(
     name: &str,
     object: &Map<String, Value>,
 ) -> Result<PathsMaker<BasicKeyword>, OutOfMemory>
-    ensures maker { IfOk result (Begins shape_of (if_script (λ accepted refused. applies (has_if accepted refused)) name.now
-        (has_branch (codes "then") (fields object.now)) (has_branch (codes "else") (fields object.now)))) }
+    ensures maker { Follows result (script_of_if object.now name.now) }
 {
     let branches = branches_of(alloc, name, object)?;
     let keyword = BasicKeyword::If(branches.accepted, branches.refused);
@@ -107,8 +100,7 @@ fn value_maker(
     object: &Map<String, Value>,
     draft: Draft,
 ) -> Result<PathsMaker<BasicKeyword>, OutOfMemory>
-    ensures maker { IfOk result (Begins shape_of (value_script (draft_of draft) (fields object.now)
-        (builtin_text keyword) (view value.now))) }
+    ensures maker { Follows result (script_of_value draft object.now keyword value.now) }
 {
     let name = keyword.as_str();
     match keyword {
@@ -189,8 +181,7 @@ fn member_maker(
     object: &Map<String, Value>,
     draft: Draft,
 ) -> Result<PathsMaker<BasicKeyword>, OutOfMemory>
-    ensures maker { IfOk result (Begins shape_of (member_script (draft_of draft) (fields object.now) (builtin_text keyword)
-        (get_member (builtin_text keyword) (fields object.now)))) }
+    ensures maker { Follows result (script_of_member draft object.now keyword) }
 {
     match value_in(object, keyword.as_str()) {
         Some(value) => value_maker(alloc, keyword, value, object, draft),

@@ -1,12 +1,11 @@
 //! The keyword `type`.
 ghost use Rattle.std.specs.Prelude.{◌≡◌, ◌++◌, codes, IfOk};
-ghost use Rattle.std.specs.List.{list_any};
 ghost use Rattle.schema_reports.specs.InstanceViews.{subject_of};
-ghost use Rattle.standard_basics.specs.TypeNames.{fits, type_name};
+ghost use Rattle.standard_basics.specs.TypeNames.{fits_one, type_name};
 ghost use Rattle.standard_basics.specs.Words.{more_names, names_text, type_text, types_text};
 ghost use Rattle.standard_basics.specs.BasicShape.{has_type, has_types};
-ghost use Rattle.keyword_authoring.specs.TextWords.{Adds, ShowsText};
-ghost use Rattle.standard_basics.specs.Telling.{TellsOwn};
+ghost use Rattle.keyword_authoring.specs.TextWords.{ShowsText};
+ghost use Rattle.standard_basics.specs.Telling.{Adds, TellsOwn};
 ghost use Rattle.keyword_authoring.specs.Borrowing.{Retains};
 
 use crate::type_names::TypeName;
@@ -23,7 +22,7 @@ pub fn tell_type<'i>(
     instance: Instance<'i>,
     answer: &mut Answer<'i>,
 ) -> Result<(), OutOfMemory>
-    ensures told { IfOk result (λ _. TellsOwn (has_type name) instance.entry mode answer.old answer.new) }
+    ensures told { TellsOwn (has_type name) instance.entry mode answer.old answer.new result }
     ensures borrows { Retains answer.old answer.new result }
 {
     if name.fits(instance) {
@@ -60,7 +59,7 @@ pub fn tell_types<'i>(
     instance: Instance<'i>,
     answer: &mut Answer<'i>,
 ) -> Result<(), OutOfMemory>
-    ensures told { IfOk result (λ _. TellsOwn (has_types names.now) instance.entry mode answer.old answer.new) }
+    ensures told { TellsOwn (has_types names.now) instance.entry mode answer.old answer.new result }
     ensures borrows { Retains answer.old answer.new result }
 {
     if fits_one(names, instance) {
@@ -76,7 +75,7 @@ pub fn tell_types<'i>(
 
 /// Returns whether the instance has one of the types.
 pub fn fits_one(names: &[TypeName], instance: Instance<'_>) -> bool
-    ensures fits { result ≡ list_any (λ t. fits t (subject_of instance.entry)) names.now }
+    ensures fits { result ≡ fits_one names.now (subject_of instance.entry) }
 {
     names.iter().any(|name| name.fits(instance))
 }
@@ -97,7 +96,7 @@ pub fn types_text(
 
 /// Appends the names, each in quotes, with commas between them.
 fn push_names(names: &[TypeName], text: &mut String) -> Result<(), OutOfMemory>
-    ensures pushed { IfOk result (λ _. Adds (names_text names.now) text.old text.new) }
+    ensures pushed { Adds result text.old text.new (names_text names.now) }
 {
     if names.is_empty() {
         return Ok(());
@@ -108,7 +107,7 @@ fn push_names(names: &[TypeName], text: &mut String) -> Result<(), OutOfMemory>
 
 /// Appends the names after the first.
 fn push_more(names: &[TypeName], text: &mut String) -> Result<(), OutOfMemory>
-    ensures pushed { IfOk result (λ _. Adds (more_names names.now) text.old text.new) }
+    ensures pushed { Adds result text.old text.new (more_names names.now) }
 {
     for name in names {
         push_name(", \"", *name, text)?;
@@ -117,7 +116,7 @@ fn push_more(names: &[TypeName], text: &mut String) -> Result<(), OutOfMemory>
 }
 
 fn push_name(before: &str, name: TypeName, text: &mut String) -> Result<(), OutOfMemory>
-    ensures pushed { IfOk result (λ _. Adds (before.now ++ type_name name ++ codes "\"") text.old text.new) }
+    ensures pushed { Adds result text.old text.new (before.now ++ type_name name ++ codes "\"") }
 {
     text.push_str(before)?;
     text.push_str(name.as_str())?;

@@ -3,6 +3,7 @@ ghost use Rattle.std.specs.Prelude.{◌≡◌, IfOk, map, option_map, string_byt
 ghost use Rattle.serde_json.specs.View.{items_view, view};
 ghost use Rattle.standard_basics.specs.Makers.{count_shape, pattern_shape, required_shape, texts_of, type_shape};
 ghost use Rattle.standard_basics.specs.Shapes.{shape_of};
+ghost use Rattle.schema_traits.specs.Showing.{Shows};
 
 use crate::counts::CountKind;
 use crate::keyword::BasicKeyword;
@@ -14,7 +15,7 @@ use std::alloc::Global;
 
 /// Returns the keyword `type` with this value, if there is one.
 pub fn type_keyword(alloc: Global, value: &Value) -> Result<Option<BasicKeyword>, OutOfMemory>
-    ensures shaped { IfOk result (λ keyword. option_map shape_of keyword ≡ type_shape (view value.now)) }
+    ensures shaped { Shows (option_map shape_of) result (type_shape (view value.now)) }
 {
     match value {
         Value::String(name) => match type_named(name.as_str()) {
@@ -45,7 +46,7 @@ pub fn texts_of(alloc: Global, values: &[Value]) -> Result<Option<Vec<String>>, 
 
 /// Returns the keyword `required` with this value, if there is one.
 pub fn required_keyword(alloc: Global, value: &Value) -> Result<Option<BasicKeyword>, OutOfMemory>
-    ensures shaped { IfOk result (λ keyword. option_map shape_of keyword ≡ required_shape (view value.now)) }
+    ensures shaped { Shows (option_map shape_of) result (required_shape (view value.now)) }
 {
     match value {
         Value::Array(values) => match texts_of(alloc, values.as_slice())? {
@@ -58,7 +59,7 @@ pub fn required_keyword(alloc: Global, value: &Value) -> Result<Option<BasicKeyw
 
 /// Returns the keyword `pattern` with this value, if there is one.
 pub fn pattern_keyword(alloc: Global, value: &Value) -> Result<Option<BasicKeyword>, OutOfMemory>
-    ensures shaped { IfOk result (λ keyword. option_map shape_of keyword ≡ pattern_shape (view value.now)) }
+    ensures shaped { Shows (option_map shape_of) result (pattern_shape (view value.now)) }
 {
     match value {
         Value::String(text) => {

@@ -1,10 +1,8 @@
 //! What `items` takes from the neighbouring members.
-ghost use Rattle.std.specs.Prelude.{◌≡◌, codes, option_and_then};
-ghost use Rattle.serde_json.specs.Find.{as_array, get_member};
+ghost use Rattle.std.specs.Prelude.{◌≡◌};
 ghost use Rattle.serde_json.specs.View.{view};
 ghost use Rattle.schema_drafts.specs.KeywordViews.{draft_of};
-ghost use Rattle.keyword_authoring.specs.Items.{count_in};
-ghost use Rattle.standard_basics.specs.Makers.{has_prefix, is_older_list, items_before};
+ghost use Rattle.standard_basics.specs.Makers.{has_prefix, is_older_list, items_before, prefix_length};
 ghost use Rattle.schema_traits.specs.Readings.{fields};
 
 use keyword_makers::{list_length, value_in};
@@ -44,7 +42,7 @@ pub fn items_before(draft: Draft, object: &Map<String, Value>) -> usize
 
 /// Returns the number of schemas of `prefixItems`.
 fn prefix_length(object: &Map<String, Value>) -> usize
-    ensures length { result ≡ count_in (option_and_then as_array (get_member (codes "prefixItems") (fields object.now))) }
+    ensures length { result ≡ prefix_length (fields object.now) }
 {
     match value_in(object, "prefixItems") {
         Some(value) => list_length(value),
