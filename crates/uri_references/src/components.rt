@@ -160,7 +160,7 @@ fn authority_in(text: &str) -> Found<'_>
 }
 
 // Appends a component between its marks, if there is one.
-fn push_around(
+pub(crate) fn push_around(
     text: &mut String,
     front: &str,
     component: Option<&str>,

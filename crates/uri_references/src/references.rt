@@ -1,9 +1,11 @@
 //! Resolution of a reference against a base (RFC 3986, section 5.2.2).
 ghost use Rattle.std.specs.Prelude.{◌≡◌, IfOk, string_bytes};
+ghost use Rattle.uri_references.specs.Normal.{resolved_normally};
 ghost use Rattle.uri_references.specs.References as spec;
 ghost use Rattle.uri_references.specs.Views.{components_of};
 
 use crate::components::Components;
+use crate::normal::compose_normally;
 use crate::paths::{through_last_slash, without_dots};
 use std::alloc::{AllocError, Global};
 
@@ -23,6 +25,23 @@ pub fn resolve(alloc: Global, base: &str, reference: &str) -> Result<String, All
     let path = target_path(alloc, &base, &reference)?;
     let target = target(&base, &reference, path.as_str());
     target.compose(alloc)
+}
+
+/// Resolves a reference against a base, and returns the target in normal form.
+///
+/// Its scheme and its host are in lower case.
+///
+/// # Errors
+///
+/// Out of memory.
+pub fn resolve_normally(alloc: Global, base: &str, reference: &str) -> Result<String, AllocError>
+    ensures resolved { IfOk result (λ s. string_bytes s ≡ resolved_normally base.now reference.now) }
+{
+    let base = Components::of(base);
+    let reference = Components::of(reference);
+    let path = target_path(alloc, &base, &reference)?;
+    let target = target(&base, &reference, path.as_str());
+    compose_normally(alloc, &target)
 }
 
 // Returns whether a reference has a scheme or an authority of its own.
