@@ -2,7 +2,7 @@ pub mod Solved
 mod SharedErrors
 mod ClonedValidators
 pub mod AtLimits
-mod Taken
+pub mod Taken
 mod VerdictsSearched
 pub mod Remembers
 pub mod Searches

@@ -1,11 +1,14 @@
 -- What a solver says of the root's number is what the run of the root's node decides; and that a validator that is made has a solver.
-use Rattle.std.proofs.Common.{◌&&◌, ◌∙◌, ◌≡◌, Bool, List, [], ap, arith, false, length, refl, subst, sym, true, ℕ}
+use Rattle.std.proofs.Common.{◌&&◌, ◌+◌, ◌∙◌, ◌≡◌, Bool, List, [], ap, arith, false, length, refl, subst, sym, true, ℕ}
 use Rattle.std.specs.Prelude.{Err, IfOk, IfSome, None, Ok, OnErr, Option, Result, Some, is_some}
 use Rattle.serde_json.specs.Data.{Data}
 use Rattle.serde_json.specs.declared.value.Value.{Value}
+use Rattle.theory_definitions.specs.Cover.{Decides, Sense, is_valid}
+use Rattle.theory_definitions.specs.Guarded.{guarded_sense}
 use Rattle.theory_definitions.specs.Keywords.{Keywords}
 use Rattle.theory_definitions.specs.Matching.{Matcher}
 use Rattle.theory_definitions.specs.Reports.{Outcome}
+use Rattle.theory_meaning.specs.Headline.{VerdictSays}
 use Rattle.theory_meaning.specs.Numbered.{subject_in}
 use Rattle.schema_run_context.specs.Works.{Budget, allowed}
 use Rattle.theory_runs.proofs.NodeOutcomes.{outcome_is}
@@ -15,6 +18,7 @@ use Rattle.schema_solver.specs.Asked.{solver_over}
 use Rattle.schema_solver.specs.Solving.{LimitWithinBound, SaysAsNodes}
 use Rattle.schema_solver.specs.Saying.{EachSays}
 use Rattle.schema_compiled.specs.Answers.{SaysVerdict}
+use Rattle.schema_compiled.specs.Asked.{DecidesFromSomeDepth}
 use Rattle.schema_compiled.specs.Program.{Program}
 use Rattle.schema_traits.specs.declared.keyword.Validate.{Ghosts as KeywordMembers}
 use Rattle.schema_traits.specs.declared.matcher.Matcher.{Ghosts as MatcherMembers}
@@ -82,3 +86,19 @@ not_stopped keywords matchers p instance limit before after given limited decide
     let left : limit ≡ before.left = sym (ap (λ (b : Budget). b.left) given) in
     let still : after.stopped ≡ false = going (subst (IsDecidedWithin keywords matchers p instance) left enough) (ap (λ (b : Budget). b.stopped) given) in
     cc (still, stopped)
+
+-- a call does not say both "valid" and "invalid" of an instance
+not_both : (v : Sense) (most : ℕ) → VerdictSays v most is_valid true → ¬ VerdictSays v most is_valid false
+not_both v most accepts refuses =
+    let undecided : ¬ Decides v most is_valid = λ decides. (let wrong : false ≡ true = (refuses.0 decides).1 ((accepts.0 decides).0 refl) in cc wrong) in
+    let wrong : true ≡ false = accepts.1 undecided in
+    cc wrong
+
+pub one_verdict : {C Run K M : Type 0} (keywords : KeywordMembers C Run K) (matchers : MatcherMembers M) (p : Program C M) (instance : Data) (valid : Bool)
+    → DecidesFromSomeDepth keywords matchers p instance true → DecidesFromSomeDepth keywords matchers p instance valid → valid ≡ true
+one_verdict keywords matchers p instance true accepts says = refl
+one_verdict keywords matchers p instance false accepts refuses =
+    let (deep, f) = accepts false (λ e. absurd (cc e)) in
+    let (deep', f') = refuses false (λ e. absurd (cc e)) in
+    absurd (not_both (guarded_sense (keywords.words false) (matchers.matching p.matcher) (numbered keywords.shape p.nodes) (subject_in instance) (deep + deep') p.root) p.runs
+    (f (deep + deep') (omega arith)) (f' (deep + deep') (omega arith)))

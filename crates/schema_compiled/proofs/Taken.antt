@@ -1,6 +1,6 @@
 -- What the runs of a call take of its budget: the first one, and those of a search.
 use Rattle.std.proofs.Common.{◌≡◌, ◌∙◌, ◌+◌, ◌<◌, ◌≤◌, inl, zero, suc, ℕ, Bool, [], ◌∷◌, true, None, arith, length, refl, sym, ap, subst}
-use Rattle.std.specs.Prelude.{find, is_some, not, option_map}
+use Rattle.std.specs.Prelude.{IfSome, Option, Some, find, is_some, not, option_map}
 use Rattle.serde_json.specs.Data.{Data}
 use Rattle.theory_definitions.specs.Cover.{Call, branch_at, mode_of, whole}
 use Rattle.theory_definitions.specs.Guarded.{guarded_sense}
@@ -13,16 +13,16 @@ use Rattle.theory_meaning.specs.Search.{Uses}
 use Rattle.theory_meaning.specs.Searched.{Reaches, here, next}
 use Rattle.theory_meaning.proofs.Finishing.{nodes_decide}
 use Rattle.schema_node_table.specs.NodeTable.{numbered}
-use Rattle.schema_run_context.specs.Works.{Asks, Budget, Spends}
+use Rattle.schema_run_context.specs.Works.{Asks, Budget, Spends, allowed}
 use Rattle.schema_run_context.proofs.Matches.{nothing_twice}
 use Rattle.theory_runs.proofs.Spending.{asks_spends, spends_none, spends_on}
-use Rattle.unfinished_search.specs.RunCounts.{MakesFurther}
+use Rattle.unfinished_search.specs.RunCounts.{MakesFurther, MakesRuns}
 use Rattle.schema_compiled.proofs.Remembers.{remembers_of}
 use Rattle.schema_traits.specs.declared.keyword.Validate.{Ghosts as KeywordMembers}
 use Rattle.schema_traits.specs.declared.matcher.Matcher.{Ghosts as MatcherMembers}
 use Rattle.schema_compiled.specs.Asked.{RunMeets}
-use Rattle.schema_compiled.specs.Program.{Program, Speaks}
-use Rattle.schema_compiled.specs.Taken.{TakesByRuns}
+use Rattle.schema_compiled.specs.Program.{FromSomeDepth, Program, Speaks}
+use Rattle.schema_compiled.specs.Taken.{MakesRunsWithin, TakesByRuns}
 
 -- so many uses of a run, each of which asks a node at least
 uses_take : {S X Y : Type 0} (Use : S → X → Y → S → Type 0) (work : S → Budget) → ((s : S) (x : X) (y : Y) (s' : S) → Use s x y s' → Asks (work s) (work s'))
@@ -91,3 +91,15 @@ module _ {C Run K M : Type 0} (keywords : KeywordMembers C Run K) (matchers : Ma
             (further, are, (uses_take (λ s x (y : Remembered × T) s'. Step s x y.0 y.1 s') work (λ s x y s' step. asks s x y.0 y.1 s' step) start further end uses limited).1),
       );
     }
+
+-- what is taken of a budget of the validator's limit is within this limit
+pub runs_within : {C Run K M X : Type 0} (keywords : KeywordMembers C Run K) (matchers : MatcherMembers M) (p : Program C M) (instance : Data) (call : Call) (old new : Budget) (answer : X)
+    → old ≡ allowed p.work → TakesByRuns keywords matchers p instance call old new → MakesRunsWithin call keywords matchers p instance answer
+runs_within keywords matchers p instance call old new answer given takes = go p.work given
+  where
+    go : (o : Option ℕ) → old ≡ allowed o
+        → IfSome o (λ limit. FromSomeDepth keywords.shape keywords.words keywords.is_whole matchers.matching p instance (λ texts v. (n : ℕ) × MakesRuns v p.runs call (suc n) × (n ≤ limit)))
+    go None is = tt
+    go (Some limit) is = λ texts speaks.
+        let (deep, are) = takes.runs (ap (λ (w : Budget). w.limited) is) texts speaks in
+        (deep, λ n more. let (further, makes, fewer) = are n more in (further, makes, let all = ap (λ (w : Budget). w.left) is in omega (arith, fewer, all)))

@@ -319,7 +319,8 @@ impl<K: Validate, M: Matcher> CompiledSchema<K, M> {
     }
 
     // Returns whether the matcher finishes every match and the root's node accepts the instance. If
-    // so, there is no error. A `false` says nothing.
+    // so, there is no error. A `false` says nothing, unless the solver finds the verdict within what
+    // is left.
     fn accepts_at_once(
         &self,
         alloc: Global,
@@ -330,6 +331,10 @@ impl<K: Validate, M: Matcher> CompiledSchema<K, M> {
         ensures finishes { IfYes result (FinishesEach (M.matching self.now.matcher) × (1 ≤ self.now.runs)) }
         ensures first { IfYes result (FirstFromSomeDepth K.Validate M.Matcher.own self.now (view instance.now) None) }
         ensures errors { IfYes result (ErrorsFromSomeDepth K.Validate M.Matcher.own self.now (view instance.now) []) }
+        ensures decides { IsDecidedWithin K.Validate M.Matcher.own self.now instance.now work.old.left
+            → OnErr result (work.old.stopped ≡ false → work.new.stopped ≡ false) }
+        ensures verdict { IsDecidedWithin K.Validate M.Matcher.own self.now instance.now work.old.left
+            → IfOk result (DecidesFromSomeDepth K.Validate M.Matcher.own self.now (view instance.now)) }
     {
         if self.matcher.finishes() {
             if let Some(solved) = self.solved(alloc, true, instance, work)? {
@@ -417,6 +422,8 @@ impl<K: Validate, M: Matcher> CompiledSchema<K, M> {
     /// If the matcher finishes every match, the call looks for the verdict first. If the first run
     /// meets an unfinished match, the further runs produce all errors.
     ///
+    /// The call does not stop if the nodes accept, and the solver finds that within what is left.
+    ///
     /// # Errors
     ///
     /// Out of memory; or one more step is needed. In the second case `work` says that it is
@@ -430,6 +437,9 @@ impl<K: Validate, M: Matcher> CompiledSchema<K, M> {
         ensures depth { IfOk result (FirstFromSomeDepth K.Validate M.Matcher.own self.now (view instance.now)) }
         ensures borrows { IfOk result (λ e. IfSome e (BorrowsItsPlace (view instance.now))) }
         ensures works { OnOk result (TakesByRuns K.Validate M.Matcher.own self.now (view instance.now) validate work.old work.new) }
+        ensures decides { IsDecidedWithin K.Validate M.Matcher.own self.now instance.now work.old.left
+            → DecidesFromSomeDepth K.Validate M.Matcher.own self.now (view instance.now) true
+            → OnErr result (work.old.stopped ≡ false → work.new.stopped ≡ false) }
     {
         let accepts = self.accepts_at_once(alloc, instance, work)?;
         if accepts {
@@ -449,6 +459,8 @@ impl<K: Validate, M: Matcher> CompiledSchema<K, M> {
     ///
     /// If the matcher finishes every match, the call looks for the verdict first.
     ///
+    /// The call does not stop if the nodes accept, and the solver finds that within what is left.
+    ///
     /// # Errors
     ///
     /// Out of memory; or one more step is needed. In the second case `work` says that it is
@@ -462,6 +474,9 @@ impl<K: Validate, M: Matcher> CompiledSchema<K, M> {
         ensures depth { IfOk result (λ es. ErrorsFromSomeDepth K.Validate M.Matcher.own self.now (view instance.now) es.items) }
         ensures borrows { IfOk result (λ es. All (BorrowsItsPlace (view instance.now)) es.items) }
         ensures works { OnOk result (TakesByRuns K.Validate M.Matcher.own self.now (view instance.now) iter_errors work.old work.new) }
+        ensures decides { IsDecidedWithin K.Validate M.Matcher.own self.now instance.now work.old.left
+            → DecidesFromSomeDepth K.Validate M.Matcher.own self.now (view instance.now) true
+            → OnErr result (work.old.stopped ≡ false → work.new.stopped ≡ false) }
     {
         let accepts = self.accepts_at_once(alloc, instance, work)?;
         if accepts {

@@ -1,4 +1,5 @@
-use Rattle.std.proofs.Common.{◌∙◌, ◌≤◌, suc, [], sym, subst, arith, length}
+use Rattle.std.proofs.Common.{◌∙◌, ◌≡◌, ◌≤◌, suc, [], ℕ, ap, false, sym, subst, arith, length, true}
+use Rattle.std.specs.Prelude.{Err}
 use Rattle.serde_json.specs.View.{view}
 use Rattle.theory_definitions.specs.Laws.{EachKeeps}
 use Rattle.theory_definitions.specs.Unfinished.{Remembered}
@@ -9,9 +10,11 @@ use Rattle.schema_run_context.proofs.Matches.{nothing_twice}
 use Rattle.schema_traits.specs.MatcherViews.{FinishesEach}
 use Rattle.schema_solver.specs.declared.eligible.SolvedVerdict.{SolvedVerdict}
 use Rattle.schema_compiled.specs.Answers.{SaysVerdict}
+use Rattle.schema_compiled.specs.Asked.{DecidesFromSomeDepth}
+use Rattle.schema_compiled.specs.Solved.{IsDecidedWithin}
 use Rattle.schema_compiled.specs.Program.{Program}
 use Rattle.schema_compiled.proofs.ErrorSearches.{errors_at_once, first_at_once}
-use Rattle.schema_compiled.proofs.Solved.{of_some}
+use Rattle.schema_compiled.proofs.Solved.{enough_decide, gives_a_verdict, of_some, on_err}
 use Rattle.schema_compiled.proofs.Searches.{finishes_of}
 use Rattle.theory_runs.proofs.Spending.{asks_spends, spends_on}
 use Rattle.schema_compiled.proofs.compiled_schema.CompiledSchema.accepts_at_once.Goals as goal
@@ -93,3 +96,25 @@ returns-then-finishes-clause-finishes g c = λ yes. (
   subst (λ (p : Program g.row.K.Denot g.row.M.Denot). FinishesEach (g.M.Matcher.matching p.matcher)) c.self.view_is (c.finishes.ensures.finishes c.if-finishes.true),
   c.in_ok-met.ensures.makes_one,
 )
+
+pub returns-in_err-solved-clause-decides : goal.returns-in_err-solved-clause-decides
+returns-in_err-solved-clause-decides g c = λ decided.
+    on_err _ (enough_decide {T = ℕ} {E = ℕ} g.K.Validate g.M.Matcher c.args.self.now c.args.instance.now c.args.work.now.left (Err 0) c.args.work.now.stopped c.solved.new.work.stopped c.in_err-solved.ensures.late decided.enough)
+
+pub returns-in-Some-clause-verdict : goal.returns-in-Some-clause-verdict
+returns-in-Some-clause-verdict g c = λ decided.
+    of_some _ c.in-Some.solved (λ (v : SolvedVerdict). DecidesFromSomeDepth g.K.Validate g.M.Matcher c.args.self.now (view c.args.instance.now) v.valid) c.in-Some.is c.in_ok-solved.ensures.depth
+
+pub returns-in_err-met-clause-decides : goal.returns-in_err-met-clause-decides
+returns-in_err-met-clause-decides g c = λ decided.
+    absurd (gives_a_verdict g.K.Validate g.M.Matcher c.args.self.now c.args.instance.now _ true _ (sym c.if-finishes.true ∙ c.finishes.ensures.says ∙ ap (λ (v : Program g.row.K.Denot g.row.M.Denot). g.M.Matcher.finishing v.matcher) c.self.view_is) c.in_ok-solved.ensures.exactly (λ x. c.in_default.not-Some x) decided)
+
+pub returns-then-finishes-clause-verdict : goal.returns-then-finishes-clause-verdict
+returns-then-finishes-clause-verdict g c = λ decided.
+    absurd (gives_a_verdict g.K.Validate g.M.Matcher c.args.self.now c.args.instance.now _ true _ (sym c.if-finishes.true ∙ c.finishes.ensures.says ∙ ap (λ (v : Program g.row.K.Denot g.row.M.Denot). g.M.Matcher.finishing v.matcher) c.self.view_is) c.in_ok-solved.ensures.exactly (λ x. c.in_default.not-Some x) decided)
+
+pub returns-clause-verdict : goal.returns-clause-verdict
+returns-clause-verdict g c = λ (decided : IsDecidedWithin g.K.Validate g.M.Matcher c.args.self.now c.args.instance.now c.args.work.now.left).
+    let says : g.M.Matcher.finishing c.args.self.now.matcher ≡ false = sym (ap (λ (v : Program g.row.K.Denot g.row.M.Denot). g.M.Matcher.finishing v.matcher) c.self.view_is) ∙ sym c.finishes.ensures.says ∙ c.if-finishes.false in
+    let finishes = decided.finishing in
+    absurd (let wrong : ⊥ = cc (says, finishes) in wrong)

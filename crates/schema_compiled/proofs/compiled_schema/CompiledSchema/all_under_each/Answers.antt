@@ -15,6 +15,7 @@ use Rattle.schema_compiled.specs.Asked.{ErrorsFromSomeDepth}
 use Rattle.schema_compiled.proofs.ErrorSearches.{errors_first}
 use Rattle.schema_compiled.proofs.Searches.{finishes_of, none_of}
 use Rattle.theory_runs.proofs.Spending.{asks_spends, spends_on}
+use Rattle.schema_compiled.proofs.Solved.{on_err, one_verdict}
 use Rattle.schema_compiled.proofs.Taken.{takes_after, takes_finished, takes_first}
 use Rattle.schema_compiled.proofs.compiled_schema.CompiledSchema.all_under_each.Goals as goal
 
@@ -79,3 +80,18 @@ returns-clause-works g c =
     let meets = subst (λ (r : Remembered). MeetsMatches w.shape w.words w.is_whole g.M.Matcher.matching p d for_all r c.in_ok-met.met) c.new-2.ensures.starts c.in_ok-met.ensures.meets in
     if_ok_mono c.shared_errors.result _ _ (λ es takes. takes_after w g.M.Matcher p d iter_errors _ _ _ (spends_on _ _ _ c.in_ok-accepts.ensures.works (asks_spends _ _ c.in_ok-met.ensures.works))
     (takes iter_errors (λ as' k. refl) meets)) c.shared_errors.ensures.works
+
+pub returns-in_err-accepts-clause-decides : goal.returns-in_err-accepts-clause-decides
+returns-in_err-accepts-clause-decides g c = λ decided valid. on_err _ (c.in_err-accepts.ensures.decides decided)
+
+pub returns-in_err-met-clause-decides : goal.returns-in_err-met-clause-decides
+returns-in_err-met-clause-decides g c = λ decided valid.
+    let accepted = one_verdict g.K.Validate g.M.Matcher c.args.self.now (view c.args.instance.now) c.in_ok-accepts.accepts valid (c.in_ok-accepts.ensures.verdict decided) in
+    let refused = c.if-accepts.false in
+    absurd (let wrong : ⊥ = cc (accepted, refused) in wrong)
+
+pub returns-clause-decides : goal.returns-clause-decides
+returns-clause-decides g c = λ decided valid.
+    let accepted = one_verdict g.K.Validate g.M.Matcher c.args.self.now (view c.args.instance.now) c.in_ok-accepts.accepts valid (c.in_ok-accepts.ensures.verdict decided) in
+    let refused = c.if-accepts.false in
+    absurd (let wrong : ⊥ = cc (accepted, refused) in wrong)

@@ -14,6 +14,7 @@ use Rattle.schema_compiled.specs.Asked.{FirstFromSomeDepth}
 use Rattle.schema_compiled.proofs.ErrorSearches.{first_first, first_has}
 use Rattle.schema_compiled.proofs.Searches.{finishes_of, none_of}
 use Rattle.theory_runs.proofs.Spending.{asks_spends, spends_on}
+use Rattle.schema_compiled.proofs.Solved.{on_err, one_verdict}
 use Rattle.schema_compiled.proofs.Taken.{takes_after, takes_finished, takes_first}
 use Rattle.schema_compiled.proofs.compiled_schema.CompiledSchema.first_under_each.Goals as goal
 
@@ -57,3 +58,18 @@ pub returns-clause-works : goal.returns-clause-works
 returns-clause-works g c =
     takes_after g.K.Validate g.M.Matcher c.args.self.now (view c.args.instance.now) validate _ _ _ (spends_on _ _ _ c.in_ok-accepts.ensures.works (asks_spends _ _ c.in_ok-met.ensures.works))
     (c.in_ok-shared.ensures.works validate validate_later c.in_ok-met.ensures.meets)
+
+pub returns-in_err-accepts-clause-decides : goal.returns-in_err-accepts-clause-decides
+returns-in_err-accepts-clause-decides g c = λ decided valid. on_err _ (c.in_err-accepts.ensures.decides decided)
+
+pub returns-in_err-met-clause-decides : goal.returns-in_err-met-clause-decides
+returns-in_err-met-clause-decides g c = λ decided valid.
+    let accepted = one_verdict g.K.Validate g.M.Matcher c.args.self.now (view c.args.instance.now) c.in_ok-accepts.accepts valid (c.in_ok-accepts.ensures.verdict decided) in
+    let refused = c.if-accepts.false in
+    absurd (let wrong : ⊥ = cc (accepted, refused) in wrong)
+
+pub returns-in_err-shared-clause-decides : goal.returns-in_err-shared-clause-decides
+returns-in_err-shared-clause-decides g c = λ decided valid.
+    let accepted = one_verdict g.K.Validate g.M.Matcher c.args.self.now (view c.args.instance.now) c.in_ok-accepts.accepts valid (c.in_ok-accepts.ensures.verdict decided) in
+    let refused = c.if-accepts.false in
+    absurd (let wrong : ⊥ = cc (accepted, refused) in wrong)
