@@ -136,6 +136,7 @@ pub use schema_traits::SpotMatch;
 pub use schema_traits::Step;
 pub use schema_traits::Target;
 pub use schema_traits::Validate;
+pub use schema_validator::CallError;
 pub use schema_validator::ValidationOptions;
 pub use schema_validator::Validator;
 pub use schema_validator::ValidatorMap;

@@ -14,3 +14,4 @@ mod MapEntries
 mod EntryFailures
 mod CompiledAlone
 pub mod Greatest
+mod Budgets

@@ -1,11 +1,10 @@
 -- The parts of a validator, and the answers of its calls: if they may stop at its limit on steps,
--- if they have a budget, and if they use its solver.
+-- and if they use its solver.
 use Rattle.std.specs.Prelude.{All, Bool, IfSome, List, Option, Result, false, is_some, true, ℕ, ◌≡◌}
 use Rattle.serde_json.specs.Data.{Data}
 use Rattle.serde_json.specs.View.{view}
 use Rattle.serde_json.specs.declared.value.Value.{Value}
 use Rattle.theory_definitions.specs.Drafts.{Draft}
-use Rattle.schema_run_context.specs.Works.{Budget, IsSpent}
 use Rattle.schema_reports.specs.ReportViews.{BorrowsItsPlace}
 use Rattle.schema_reports.specs.declared.evaluation.EvaluationNode.{EvaluationNode}
 use Rattle.schema_reports.specs.declared.reports.ValidationError.{ValidationError}
@@ -67,16 +66,6 @@ FirstBorrows instance r = IfSome (refusal_of r) (BorrowsItsPlace (view instance)
 -- so does each error
 abbrev pub EachBorrows : Value → List ValidationError → Type 0
 EachBorrows instance es = All (BorrowsItsPlace (view instance)) es
-
--- ---- a budget
-
--- if the call stopped, nothing is left of the budget
-abbrev pub IsSpentIfStopped : Budget → Type 0
-IsSpentIfStopped w = w.stopped ≡ true → IsSpent w
-
--- a budget that was not stopped is still not stopped
-abbrev pub StaysUnstopped : Budget → Budget → Type 0
-StaysUnstopped old new = old.stopped ≡ false → new.stopped ≡ false
 
 -- ---- what a solver finds, or nothing
 

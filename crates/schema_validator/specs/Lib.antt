@@ -15,3 +15,4 @@ pub mod BuildResults
 pub mod RootWords
 pub mod MapWords
 pub mod CallWords
+pub mod Budgets

@@ -5,11 +5,13 @@
 #![tactic(auto)]
 
 mod building;
+mod call_error;
 mod compiled;
 mod map;
 mod options;
 mod validator;
 
+pub use call_error::CallError;
 pub use map::ValidatorMap;
 pub use options::ValidationOptions;
 pub use options::root::root_key;

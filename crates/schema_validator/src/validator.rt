@@ -2,7 +2,7 @@
 //!
 //! `is_valid` returns no context, and so no count of pairs. `solve` evaluates the same nodes, by
 //! the same function.
-ghost use Rattle.std.specs.Prelude.{◌≡◌, ◌↔◌, ◌<◌, ◌≤◌, true, None, IfOk, OnErr, length, OnOk};
+ghost use Rattle.std.specs.Prelude.{◌≡◌, ◌↔◌, ◌<◌, ◌≤◌, true, None, IfErr, IfOk, OnErr, length, OnOk};
 ghost use Rattle.serde_json.specs.View.{view};
 ghost use Rattle.theory_definitions.specs.Cover.{evaluate, is_valid, iter_errors, validate};
 ghost use Rattle.schema_drafts.specs.KeywordViews.{draft_of};
@@ -15,7 +15,8 @@ ghost use Rattle.schema_compiled.specs.Asked.{ErrorsPointAsNodes, FirstPointsAsN
 ghost use Rattle.schema_compiled.specs.Asked.{EvaluatesFromSomeDepth, EvaluatesInEverySense};
 ghost use Rattle.schema_compiled.specs.Asked.{UnitsFromSomeDepth, UnitsInEverySense};
 ghost use Rattle.schema_validator.specs.CallWords.{AllAreMonotone, EachBorrows, FindsBySolver, FindsOnlyBySolver};
-ghost use Rattle.schema_validator.specs.CallWords.{FindsVerdict, FindsWith, FirstBorrows, FirstIsSo, IsSpentIfStopped, StaysUnstopped};
+ghost use Rattle.schema_validator.specs.CallWords.{FindsVerdict, FindsWith, FirstBorrows, FirstIsSo};
+ghost use Rattle.schema_validator.specs.Budgets.{NamesLimit, StaysUnstopped};
 ghost use Rattle.schema_compiled.specs.Program.{program_with};
 ghost use Rattle.schema_validator.specs.Greatest.{DecidesAccepted, ErrorsAccepted, EvaluatesAccepted, FirstAccepted};
 ghost use Rattle.schema_validator.specs.Handed.{default_runs};
@@ -28,6 +29,7 @@ ghost use Rattle.schema_node_table.specs.NodeTable.{numbered};
 mod calls;
 mod cloning;
 
+use crate::call_error::{CallError, charge, charge_failure};
 pub use schema_compiled::CallLimits;
 use schema_compiled::CompiledSchema;
 use schema_drafts::Draft;
@@ -39,7 +41,7 @@ pub use schema_solver::SolvedVerdict;
 use schema_solver::{Solver, is_monotone};
 use schema_traits::{Matcher, SchemaNode, Validate};
 use serde_json::Value;
-use std::alloc::Global;
+use std::alloc::{AllocError, Global};
 use std::marker::Model;
 use unfinished_search::MAX_ASSUMED_RUNS;
 
@@ -70,13 +72,6 @@ fn unless_refused<'i>(error: Option<ValidationError<'i>>) -> Result<(), Validati
         Some(error) => Err(error),
         None => Ok(()),
     }
-}
-
-// States that a stopped budget has no step left. Does nothing when it runs.
-fn assert_spent(work: &Work)
-    ensures spent { IsSpentIfStopped work.now }
-{
-    work.is_stopped();
 }
 
 impl<K: Validate, M: Matcher> Validator<K, M> {
@@ -190,26 +185,33 @@ impl<K: Validate, M: Matcher> Validator<K, M> {
     ///
     /// # Errors
     ///
-    /// Out of memory; or the call needs one more step. In the second case `work` says that it is
-    /// stopped, and allows no more.
+    /// `OutOfMemory`; or `WorkLimit`, if the call needs one more step than `work` has left. In the
+    /// second case `work` has a limit, says that it is stopped, and allows no more. No more is left
+    /// of it than before in any case.
     pub fn is_valid_within(
         &self,
         alloc: Global,
         instance: &Value,
         work: &mut Work,
-    ) -> Result<bool, OutOfMemory>
+    ) -> Result<bool, CallError>
         ensures depth { IfOk result (DecidesFromSomeDepth K.Validate M.Matcher.own self.now (view instance.now)) }
         ensures senses { IfOk result (DecidesInEverySense K.Validate M.Matcher.own self.now (view instance.now)) }
         ensures greatest { IfOk result (DecidesAccepted K.Validate M.Matcher.own self.now (view instance.now)) }
         ensures works { OnOk result (TakesByRuns K.Validate M.Matcher.own self.now (view instance.now) is_valid work.old work.new) }
-        ensures stopped { OnErr result (IsSpentIfStopped work.new) }
+        ensures spends { Spends work.old work.new }
+        ensures fails { IfErr result (NamesLimit work.old work.new) }
         ensures decides { IsDecidedWithin K.Validate M.Matcher.own self.now instance.now work.old.left
             → OnErr result (StaysUnstopped work.old work.new) }
     {
         self.assert_ranked();
-        let answer = self.schema.valid_under_each(alloc, instance, work);
-        assert_spent(work);
-        Ok(answer?)
+        let mut copy = *work;
+        match self.schema.valid_under_each(alloc, instance, &mut copy) {
+            Ok(valid) => {
+                charge(work, copy);
+                Ok(valid)
+            }
+            Err(_) => Err(charge_failure(work, copy)),
+        }
     }
 
     /// Returns the verdict that the solver finds, with its context.
@@ -246,7 +248,10 @@ impl<K: Validate, M: Matcher> Validator<K, M> {
         ensures few { IfOk result (FindsWith (BeganFew K.Validate M.Matcher.own self.now instance.now)) }
     {
         let mut work = Work::unlimited();
-        self.solve_within(alloc, instance, &mut work)
+        match self.solve_within(alloc, instance, &mut work) {
+            Ok(found) => Ok(found),
+            Err(_) => Err(AllocError),
+        }
     }
 
     /// Like `solve`, but takes one step from `work` for each pair that begins.
@@ -257,14 +262,14 @@ impl<K: Validate, M: Matcher> Validator<K, M> {
     ///
     /// # Errors
     ///
-    /// Out of memory; or the call needs to begin one more pair. In the second case `work` says that
-    /// it is stopped.
+    /// `OutOfMemory`; or `WorkLimit`, if the call needs to begin one more pair than `work` has left.
+    /// In the second case `work` has a limit, and says that it is stopped.
     pub fn solve_within<'i>(
         &self,
         alloc: Global,
         instance: &'i Value,
         work: &mut Work,
-    ) -> Result<Option<SolvedVerdict<'i>>, OutOfMemory>
+    ) -> Result<Option<SolvedVerdict<'i>>, CallError>
         requires finishes { FinishesEach (M.matching self.now.matcher) }
         ensures exactly { AllSayMonotone K.Validate self.now → IfOk result (FindsBySolver self.now) }
         ensures only { IfOk result (FindsOnlyBySolver self.now) }
@@ -272,70 +277,102 @@ impl<K: Validate, M: Matcher> Validator<K, M> {
         ensures greatest { IfOk result (FindsVerdict (DecidesAccepted K.Validate M.Matcher.own self.now (view instance.now))) }
         ensures rests { IfOk result (FindsWith (RestsOnContext K.Validate M.Matcher.own self.now instance.now)) }
         ensures few { IfOk result (FindsWith (BeganFew K.Validate M.Matcher.own self.now instance.now)) }
-        ensures works { OnOk result (Spends work.old work.new) }
+        ensures spends { Spends work.old work.new }
+        ensures fails { IfErr result (NamesLimit work.old work.new) }
         ensures counted { IfOk result (FindsWith (λ v. IsCountedIn v work.old work.new)) }
         ensures late { OnErr result (StopsOnlyLate K.Validate M.Matcher.own self.now instance.now work.old work.new) }
         ensures decides { AreEnough K.Validate M.Matcher.own self.now instance.now work.old.left
             → OnErr result (StaysUnstopped work.old work.new) }
     {
         self.assert_ranked();
-        self.schema.solved(alloc, true, instance, work)
+        let mut copy = *work;
+        match self.schema.solved(alloc, true, instance, &mut copy) {
+            Ok(found) => {
+                charge(work, copy);
+                Ok(found)
+            }
+            Err(_) => Err(charge_failure(work, copy)),
+        }
     }
 
     /// Like `validate`, but takes its steps from `work`, and no more.
     ///
-    /// Each run that it makes for unfinished matches after the first takes at least one step.
+    /// Each run that it makes for unfinished matches after the first takes at least one step. It
+    /// is not stopped if the nodes accept the instance, and `is_valid_within` would not be, for the
+    /// reasons that stand there.
     ///
     /// # Errors
     ///
-    /// Out of memory; or the call needs one more step. In the second case `work` says that it is
-    /// stopped, and allows no more.
+    /// `OutOfMemory`; or `WorkLimit`, if the call needs one more step than `work` has left. In the
+    /// second case `work` has a limit, says that it is stopped, and allows no more. No more is left
+    /// of it than before in any case.
     pub fn validate_within<'i>(
         &self,
         alloc: Global,
         instance: &'i Value,
         work: &mut Work,
-    ) -> Result<Result<(), ValidationError<'i>>, OutOfMemory>
+    ) -> Result<Result<(), ValidationError<'i>>, CallError>
         ensures depth { IfOk result (FirstIsSo K.Validate M.Matcher.own self.now instance.now FirstFromSomeDepth) }
         ensures senses { IfOk result (FirstIsSo K.Validate M.Matcher.own self.now instance.now FirstInEverySense) }
         ensures greatest { IfOk result (FirstIsSo K.Validate M.Matcher.own self.now instance.now FirstAccepted) }
         ensures points { IfOk result (FirstIsSo K.Validate M.Matcher.own self.now instance.now FirstPointsAsNodes) }
         ensures borrows { IfOk result (FirstBorrows instance.now) }
         ensures works { OnOk result (TakesByRuns K.Validate M.Matcher.own self.now (view instance.now) validate work.old work.new) }
-        ensures stopped { OnErr result (IsSpentIfStopped work.new) }
+        ensures spends { Spends work.old work.new }
+        ensures fails { IfErr result (NamesLimit work.old work.new) }
+        ensures decides { IsDecidedWithin K.Validate M.Matcher.own self.now instance.now work.old.left
+            → DecidesFromSomeDepth K.Validate M.Matcher.own self.now (view instance.now) true
+            → OnErr result (StaysUnstopped work.old work.new) }
     {
         self.assert_ranked();
-        let answer = self.schema.first_under_each(alloc, instance, work);
-        assert_spent(work);
-        Ok(unless_refused(answer?))
+        let mut copy = *work;
+        match self.schema.first_under_each(alloc, instance, &mut copy) {
+            Ok(error) => {
+                charge(work, copy);
+                Ok(unless_refused(error))
+            }
+            Err(_) => Err(charge_failure(work, copy)),
+        }
     }
 
     /// Like `iter_errors`, but takes its steps from `work`, and no more.
     ///
-    /// Each run that it makes for unfinished matches after the first takes at least one step.
+    /// Each run that it makes for unfinished matches after the first takes at least one step. It
+    /// is not stopped if the nodes accept the instance, and `is_valid_within` would not be, for the
+    /// reasons that stand there.
     ///
     /// # Errors
     ///
-    /// Out of memory; or the call needs one more step. In the second case `work` says that it is
-    /// stopped, and allows no more.
+    /// `OutOfMemory`; or `WorkLimit`, if the call needs one more step than `work` has left. In the
+    /// second case `work` has a limit, says that it is stopped, and allows no more. No more is left
+    /// of it than before in any case.
     pub fn iter_errors_within<'i>(
         &self,
         alloc: Global,
         instance: &'i Value,
         work: &mut Work,
-    ) -> Result<ErrorIterator<'i>, OutOfMemory>
+    ) -> Result<ErrorIterator<'i>, CallError>
         ensures depth { IfOk result (ErrorsFromSomeDepth K.Validate M.Matcher.own self.now (view instance.now)) }
         ensures senses { IfOk result (ErrorsInEverySense K.Validate M.Matcher.own self.now (view instance.now)) }
         ensures greatest { IfOk result (ErrorsAccepted K.Validate M.Matcher.own self.now (view instance.now)) }
         ensures points { IfOk result (ErrorsPointAsNodes K.Validate M.Matcher.own self.now (view instance.now)) }
         ensures borrows { IfOk result (EachBorrows instance.now) }
         ensures works { OnOk result (TakesByRuns K.Validate M.Matcher.own self.now (view instance.now) iter_errors work.old work.new) }
-        ensures stopped { OnErr result (IsSpentIfStopped work.new) }
+        ensures spends { Spends work.old work.new }
+        ensures fails { IfErr result (NamesLimit work.old work.new) }
+        ensures decides { IsDecidedWithin K.Validate M.Matcher.own self.now instance.now work.old.left
+            → DecidesFromSomeDepth K.Validate M.Matcher.own self.now (view instance.now) true
+            → OnErr result (StaysUnstopped work.old work.new) }
     {
         self.assert_ranked();
-        let answer = self.schema.all_under_each(alloc, instance, work);
-        assert_spent(work);
-        Ok(ErrorIterator::new(answer?))
+        let mut copy = *work;
+        match self.schema.all_under_each(alloc, instance, &mut copy) {
+            Ok(errors) => {
+                charge(work, copy);
+                Ok(ErrorIterator::new(errors))
+            }
+            Err(_) => Err(charge_failure(work, copy)),
+        }
     }
 
     /// Like `evaluate`, but takes its steps from `work`, and no more.
@@ -344,25 +381,32 @@ impl<K: Validate, M: Matcher> Validator<K, M> {
     ///
     /// # Errors
     ///
-    /// Out of memory; or the call needs one more step. In the second case `work` says that it is
-    /// stopped, and allows no more.
+    /// `OutOfMemory`; or `WorkLimit`, if the call needs one more step than `work` has left. In the
+    /// second case `work` has a limit, says that it is stopped, and allows no more. No more is left
+    /// of it than before in any case.
     pub fn evaluate_within(
         &self,
         alloc: Global,
         instance: &Value,
         work: &mut Work,
-    ) -> Result<Evaluation, OutOfMemory>
+    ) -> Result<Evaluation, CallError>
         ensures depth { IfOk result (EvaluatesFromSomeDepth K.Validate M.Matcher.own self.now (view instance.now)) }
         ensures senses { IfOk result (EvaluatesInEverySense K.Validate M.Matcher.own self.now (view instance.now)) }
         ensures greatest { IfOk result (EvaluatesAccepted K.Validate M.Matcher.own self.now (view instance.now)) }
         ensures units { IfOk result (UnitsFromSomeDepth K.Validate M.Matcher.own self.now (view instance.now)) }
         ensures plain { IfOk result (UnitsInEverySense K.Validate M.Matcher.own self.now (view instance.now)) }
         ensures works { OnOk result (TakesByRuns K.Validate M.Matcher.own self.now (view instance.now) evaluate work.old work.new) }
-        ensures stopped { OnErr result (IsSpentIfStopped work.new) }
+        ensures spends { Spends work.old work.new }
+        ensures fails { IfErr result (NamesLimit work.old work.new) }
     {
         self.assert_ranked();
-        let answer = self.schema.evaluated_under_each(alloc, instance, work);
-        assert_spent(work);
-        Ok(Evaluation::new(answer?))
+        let mut copy = *work;
+        match self.schema.evaluated_under_each(alloc, instance, &mut copy) {
+            Ok(unit) => {
+                charge(work, copy);
+                Ok(Evaluation::new(unit))
+            }
+            Err(_) => Err(charge_failure(work, copy)),
+        }
     }
 }

@@ -25,7 +25,7 @@ use schema_output::Evaluation;
 use schema_reports::{OutOfMemory, ValidationError};
 use serde_json::Value;
 use standard_basics::BasicKeyword;
-use std::alloc::Global;
+use std::alloc::{AllocError, Global};
 
 /// What the program prints about an instance, and whether it is accepted.
 #[derive(Drop)]
@@ -74,7 +74,10 @@ fn verdict(
     ensures depth { FromDepth validator.now (view instance.now) IsValid result }
 {
     let mut work = Work::unlimited();
-    let accepted = validator.is_valid_within(alloc, instance, &mut work)?;
+    let accepted = match validator.is_valid_within(alloc, instance, &mut work) {
+        Ok(accepted) => accepted,
+        Err(_) => return Err(AllocError),
+    };
     let text = verdict_text(alloc, accepted)?;
     Ok(Answer { accepted, text })
 }
@@ -99,7 +102,11 @@ fn first(
     ensures depth { FromDepth validator.now (view instance.now) Validate result }
 {
     let mut work = Work::unlimited();
-    match validator.validate_within(alloc, instance, &mut work)? {
+    let refusal = match validator.validate_within(alloc, instance, &mut work) {
+        Ok(refusal) => refusal,
+        Err(_) => return Err(AllocError),
+    };
+    match refusal {
         Ok(()) => Ok(Answer {
             accepted: true,
             text: String::from_str(alloc, "ok\n")?,
@@ -127,7 +134,11 @@ fn errors(
     let mut accepted = true;
     let mut text = String::new(alloc);
     let mut work = Work::unlimited();
-    for error in validator.iter_errors_within(alloc, instance, &mut work)? {
+    let errors = match validator.iter_errors_within(alloc, instance, &mut work) {
+        Ok(errors) => errors,
+        Err(_) => return Err(AllocError),
+    };
+    for error in errors {
         accepted = false;
         push_error(&mut text, alloc, &error)?;
     }
@@ -144,7 +155,10 @@ fn evaluation(
     ensures depth { FromDepth validator.now (view instance.now) Evaluate result }
 {
     let mut work = Work::unlimited();
-    let evaluation = validator.evaluate_within(alloc, instance, &mut work)?;
+    let evaluation = match validator.evaluate_within(alloc, instance, &mut work) {
+        Ok(evaluation) => evaluation,
+        Err(_) => return Err(AllocError),
+    };
     let accepted = evaluation.is_valid();
     let text = list_line(alloc, &evaluation)?;
     Ok(Answer { accepted, text })

@@ -6,10 +6,13 @@ ghost use Rattle.schema_compiled.specs.Asked.{DecidesInEverySense, ErrorsInEvery
 ghost use Rattle.schema_compiled.specs.Asked.{ErrorsPointAsNodes, FirstPointsAsNodes};
 ghost use Rattle.schema_compiled.specs.Asked.{EvaluatesFromSomeDepth, EvaluatesInEverySense};
 ghost use Rattle.schema_compiled.specs.Asked.{UnitsFromSomeDepth, UnitsInEverySense};
-ghost use Rattle.schema_validator.specs.CallWords.{AreSoOrGiveLimit, AreSoOrTell, EachBorrows, FirstBorrows, FirstIsSoOrTells, IsSoOrNo};
+ghost use Rattle.schema_validator.specs.CallWords.{AreSoOrGiveLimit, AreSoOrTell, EachBorrows, FirstBorrows, FirstIsSo, FirstIsSoOrTells, IsSoOrNo};
 ghost use Rattle.schema_validator.specs.Greatest.{DecidesAccepted, ErrorsAccepted, EvaluatesAccepted, FirstAccepted};
 ghost use Rattle.schema_compiled.specs.Solved.{IsDecidedWithin};
+ghost use Rattle.schema_compiled.specs.Taken.{MakesRunsWithin};
+ghost use Rattle.theory_definitions.specs.Cover.{evaluate, is_valid, iter_errors, validate};
 
+use crate::call_error::CallError;
 use crate::validator::Validator;
 use schema_compiled::{limit_failure, limit_failure_alone};
 use schema_output::{Evaluation, unit_of_errors};
@@ -17,18 +20,19 @@ use schema_reports::{ErrorIterator, OutOfMemory, ValidationError};
 use schema_run_context::Work;
 use schema_traits::{Matcher, Validate};
 use serde_json::Value;
-use std::alloc::Global;
+use std::alloc::{AllocError, Global};
 
 impl<K: Validate, M: Matcher> Validator<K, M> {
-    // Returns the validator's limit on steps, if a call has stopped at one.
-    fn stopped_at(&self, work: &Work) -> Option<u64>
+    // Returns the validator's limit on steps, if a call failed because of it.
+    fn limit_named(&self, failure: CallError) -> Option<u64>
         ensures limit { IfSome result (λ limit. self.now.work ≡ Some limit) }
-        ensures stopped { OnSome result (work.now.stopped ≡ true) }
+        ensures named { OnSome result (failure ≡ CallError.WorkLimit) }
+        ensures other { failure ≡ CallError.WorkLimit → result ≡ self.now.work }
     {
-        if !work.is_stopped() {
-            return None;
+        match failure {
+            CallError::WorkLimit => self.work_limit(),
+            CallError::OutOfMemory => None,
         }
-        self.work_limit()
     }
 
     /// Returns whether the instance is valid.
@@ -50,15 +54,16 @@ impl<K: Validate, M: Matcher> Validator<K, M> {
         ensures depth { IfOk result (IsSoOrNo K.Validate M.Matcher.own self.now instance.now DecidesFromSomeDepth) }
         ensures senses { IfOk result (IsSoOrNo K.Validate M.Matcher.own self.now instance.now DecidesInEverySense) }
         ensures greatest { IfOk result (IsSoOrNo K.Validate M.Matcher.own self.now instance.now DecidesAccepted) }
+        ensures works { IfOk result (IsSoOrNo K.Validate M.Matcher.own self.now instance.now (MakesRunsWithin is_valid)) }
         ensures decides { IfSome self.now.work (IsDecidedWithin K.Validate M.Matcher.own self.now instance.now)
             → IfOk result (DecidesFromSomeDepth K.Validate M.Matcher.own self.now (view instance.now)) }
     {
         let mut work = Work::within(self.work_limit());
         match self.is_valid_within(alloc, instance, &mut work) {
             Ok(valid) => Ok(valid),
-            Err(refused) => match self.stopped_at(&work) {
+            Err(failure) => match self.limit_named(failure) {
                 Some(_limit) => Ok(false),
-                None => Err(refused),
+                None => Err(AllocError),
             },
         }
     }
@@ -89,13 +94,17 @@ impl<K: Validate, M: Matcher> Validator<K, M> {
         ensures greatest { IfOk result (FirstIsSoOrTells K.Validate M.Matcher.own self.now instance.now FirstAccepted) }
         ensures points { IfOk result (FirstIsSoOrTells K.Validate M.Matcher.own self.now instance.now FirstPointsAsNodes) }
         ensures borrows { IfOk result (FirstBorrows instance.now) }
+        ensures works { IfOk result (FirstIsSoOrTells K.Validate M.Matcher.own self.now instance.now (MakesRunsWithin validate)) }
+        ensures decides { IfSome self.now.work (IsDecidedWithin K.Validate M.Matcher.own self.now instance.now)
+            → DecidesFromSomeDepth K.Validate M.Matcher.own self.now (view instance.now) true
+            → IfOk result (FirstIsSo K.Validate M.Matcher.own self.now instance.now FirstFromSomeDepth) }
     {
         let mut work = Work::within(self.work_limit());
         match self.validate_within(alloc, instance, &mut work) {
             Ok(refusal) => Ok(refusal),
-            Err(refused) => match self.stopped_at(&work) {
+            Err(failure) => match self.limit_named(failure) {
                 Some(limit) => Ok(Err(limit_failure(alloc, limit, instance)?)),
-                None => Err(refused),
+                None => Err(AllocError),
             },
         }
     }
@@ -126,13 +135,17 @@ impl<K: Validate, M: Matcher> Validator<K, M> {
         ensures greatest { IfOk result (AreSoOrTell K.Validate M.Matcher.own self.now instance.now ErrorsAccepted) }
         ensures points { IfOk result (AreSoOrTell K.Validate M.Matcher.own self.now instance.now ErrorsPointAsNodes) }
         ensures borrows { IfOk result (EachBorrows instance.now) }
+        ensures works { IfOk result (AreSoOrTell K.Validate M.Matcher.own self.now instance.now (MakesRunsWithin iter_errors)) }
+        ensures decides { IfSome self.now.work (IsDecidedWithin K.Validate M.Matcher.own self.now instance.now)
+            → DecidesFromSomeDepth K.Validate M.Matcher.own self.now (view instance.now) true
+            → IfOk result (ErrorsFromSomeDepth K.Validate M.Matcher.own self.now (view instance.now)) }
     {
         let mut work = Work::within(self.work_limit());
         match self.iter_errors_within(alloc, instance, &mut work) {
             Ok(errors) => Ok(errors),
-            Err(refused) => match self.stopped_at(&work) {
+            Err(failure) => match self.limit_named(failure) {
                 Some(limit) => Ok(ErrorIterator::new(limit_failure_alone(alloc, limit, instance)?)),
-                None => Err(refused),
+                None => Err(AllocError),
             },
         }
     }
@@ -162,16 +175,17 @@ impl<K: Validate, M: Matcher> Validator<K, M> {
         ensures greatest { IfOk result (AreSoOrGiveLimit K.Validate M.Matcher.own self.now instance.now EvaluatesAccepted) }
         ensures units { IfOk result (AreSoOrGiveLimit K.Validate M.Matcher.own self.now instance.now UnitsFromSomeDepth) }
         ensures plain { IfOk result (AreSoOrGiveLimit K.Validate M.Matcher.own self.now instance.now UnitsInEverySense) }
+        ensures works { IfOk result (AreSoOrGiveLimit K.Validate M.Matcher.own self.now instance.now (MakesRunsWithin evaluate)) }
     {
         let mut work = Work::within(self.work_limit());
         match self.evaluate_within(alloc, instance, &mut work) {
             Ok(evaluation) => Ok(evaluation),
-            Err(refused) => match self.stopped_at(&work) {
+            Err(failure) => match self.limit_named(failure) {
                 Some(limit) => {
                     let failure = limit_failure_alone(alloc, limit, instance)?;
                     Ok(Evaluation::new(unit_of_errors(alloc, failure)?))
                 }
-                None => Err(refused),
+                None => Err(AllocError),
             },
         }
     }

@@ -1,8 +1,11 @@
-use Rattle.std.proofs.Common.{subst, sym}
+use Rattle.std.proofs.Common.{◌∙◌, ap, subst, sym}
 use Rattle.serde_json.specs.View.{view}
 use Rattle.schema_reports.specs.declared.evaluation.EvaluationNode.{EvaluationNode}
+use Rattle.theory_definitions.specs.Cover.{evaluate}
+use Rattle.schema_run_context.specs.Works.{allowed}
 use Rattle.schema_compiled.specs.Stopped.{GivesLimit}
 use Rattle.schema_compiled.proofs.AtLimits.{gives_limit, stops, unless}
+use Rattle.schema_compiled.proofs.Taken.{runs_within}
 use Rattle.schema_validator.proofs.validator.Validator.evaluate.Goals as goal
 
 pub returns-in-Ok-clause-depth : goal.returns-in-Ok-clause-depth
@@ -34,3 +37,9 @@ returns-in_ok-unit_of_errors-in-Some-clause-units g c = stops _ _ _ _ c.in-Some.
 
 pub returns-in_ok-unit_of_errors-in-Some-clause-plain : goal.returns-in_ok-unit_of_errors-in-Some-clause-plain
 returns-in_ok-unit_of_errors-in-Some-clause-plain g c = stops _ _ _ _ c.in-Some.ensures.limit (subst (λ (u : EvaluationNode). GivesLimit u c.in-Some.limit) (sym c.new.ensures.root) (gives_limit (view c.args.instance.now) c.in-Some.limit c.in_ok-unit_of_errors-in-Some.field-0 c.in_ok-failure-in-Some.failure.items c.in_ok-failure-in-Some.ensures.tells c.in_ok-unit_of_errors-in-Some.ensures.unit))
+
+pub returns-in-Ok-clause-works : goal.returns-in-Ok-clause-works
+returns-in-Ok-clause-works g c = unless _ _ _ (runs_within g.K.Validate g.M.Matcher c.args.self.now (view c.args.instance.now) evaluate _ _ c.in-Ok.evaluation (c.within-work.ensures.within ∙ ap allowed c.work_limit.ensures.work) c.in-Ok.ensures.works)
+
+pub returns-in_ok-unit_of_errors-in-Some-clause-works : goal.returns-in_ok-unit_of_errors-in-Some-clause-works
+returns-in_ok-unit_of_errors-in-Some-clause-works g c = stops _ _ _ _ c.in-Some.ensures.limit (subst (λ (u : EvaluationNode). GivesLimit u c.in-Some.limit) (sym c.new.ensures.root) (gives_limit (view c.args.instance.now) c.in-Some.limit c.in_ok-unit_of_errors-in-Some.field-0 c.in_ok-failure-in-Some.failure.items c.in_ok-failure-in-Some.ensures.tells c.in_ok-unit_of_errors-in-Some.ensures.unit))

@@ -1,7 +1,10 @@
 use Rattle.std.proofs.Common.{◌∙◌, ap, refl}
 use Rattle.schema_run_context.specs.Works.{allowed}
 use Rattle.schema_compiled.proofs.AtLimits.{stops, unless}
+use Rattle.serde_json.specs.View.{view}
+use Rattle.theory_definitions.specs.Cover.{is_valid}
 use Rattle.schema_compiled.proofs.Solved.{not_stopped}
+use Rattle.schema_compiled.proofs.Taken.{runs_within}
 use Rattle.schema_validator.proofs.validator.Validator.is_valid.Goals as goal
 
 pub returns-in-Ok-clause-depth : goal.returns-in-Ok-clause-depth
@@ -28,4 +31,10 @@ returns-in-Ok-clause-decides g c = λ decided. c.in-Ok.ensures.depth
 pub returns-in-Some-clause-decides : goal.returns-in-Some-clause-decides
 returns-in-Some-clause-decides g c = λ decided.
     let given = c.within-work.ensures.within ∙ ap allowed (c.work_limit.ensures.work ∙ c.in-Some.ensures.limit) in
-    absurd (not_stopped g.K.Validate g.M.Matcher c.args.self.now c.args.instance.now _ c.within-work.result c.is_valid_within.new.work given c.in-Some.ensures.limit decided c.in-Err.ensures.decides c.in-Some.ensures.stopped)
+    absurd (not_stopped g.K.Validate g.M.Matcher c.args.self.now c.args.instance.now _ c.within-work.result c.is_valid_within.new.work given c.in-Some.ensures.limit decided c.in-Err.ensures.decides (c.in-Err.ensures.fails.limit c.in-Some.ensures.named).0)
+
+pub returns-in-Ok-clause-works : goal.returns-in-Ok-clause-works
+returns-in-Ok-clause-works g c = unless _ _ _ (runs_within g.K.Validate g.M.Matcher c.args.self.now (view c.args.instance.now) is_valid _ _ c.in-Ok.valid (c.within-work.ensures.within ∙ ap allowed c.work_limit.ensures.work) c.in-Ok.ensures.works)
+
+pub returns-in-Some-clause-works : goal.returns-in-Some-clause-works
+returns-in-Some-clause-works g c = stops _ _ _ _ c.in-Some.ensures.limit refl

@@ -1,11 +1,15 @@
-use Rattle.std.proofs.Common.{◌∙◌, [], List, subst, sym}
+use Rattle.std.proofs.Common.{◌∙◌, [], List, ap, subst, sym}
 use Rattle.std.specs.Prelude.{All}
 use Rattle.std.proofs.lemmas.List.Elements.{All-cons, All-nil}
 use Rattle.serde_json.specs.View.{view}
 use Rattle.schema_reports.specs.ReportViews.{BorrowsItsPlace}
 use Rattle.schema_reports.specs.declared.reports.ValidationError.{ValidationError}
+use Rattle.theory_definitions.specs.Cover.{iter_errors}
+use Rattle.schema_run_context.specs.Works.{allowed}
 use Rattle.schema_compiled.specs.Stopped.{OnlyTellsLimit}
 use Rattle.schema_compiled.proofs.AtLimits.{stops, tells_borrows, unless}
+use Rattle.schema_compiled.proofs.Solved.{not_stopped}
+use Rattle.schema_compiled.proofs.Taken.{runs_within}
 use Rattle.schema_validator.proofs.validator.Validator.iter_errors.Goals as goal
 
 pub returns-in-Ok-clause-depth : goal.returns-in-Ok-clause-depth
@@ -37,3 +41,17 @@ returns-in_ok-limit_failure_alone-in-Some-clause-borrows g c =
     let d = view c.args.instance.now in
     let told = c.in_ok-limit_failure_alone-in-Some.ensures.tells in
     subst (All (BorrowsItsPlace d)) (sym (c.new.ensures.errors ∙ told.1)) (All-cons (BorrowsItsPlace d) told.0 [] (tells_borrows d c.in-Some.limit told.0 told.2) (All-nil (BorrowsItsPlace d)))
+
+pub returns-in-Ok-clause-works : goal.returns-in-Ok-clause-works
+returns-in-Ok-clause-works g c = unless _ _ _ (runs_within g.K.Validate g.M.Matcher c.args.self.now (view c.args.instance.now) iter_errors _ _ c.in-Ok.errors (c.within-work.ensures.within ∙ ap allowed c.work_limit.ensures.work) c.in-Ok.ensures.works)
+
+pub returns-in_ok-limit_failure_alone-in-Some-clause-works : goal.returns-in_ok-limit_failure_alone-in-Some-clause-works
+returns-in_ok-limit_failure_alone-in-Some-clause-works g c = stops _ _ _ _ c.in-Some.ensures.limit (subst (λ (es : List ValidationError). OnlyTellsLimit (view c.args.instance.now) es c.in-Some.limit) (sym c.new.ensures.errors) c.in_ok-limit_failure_alone-in-Some.ensures.tells)
+
+pub returns-in-Ok-clause-decides : goal.returns-in-Ok-clause-decides
+returns-in-Ok-clause-decides g c = λ decided accepts. c.in-Ok.ensures.depth
+
+pub returns-in_ok-limit_failure_alone-in-Some-clause-decides : goal.returns-in_ok-limit_failure_alone-in-Some-clause-decides
+returns-in_ok-limit_failure_alone-in-Some-clause-decides g c = λ decided accepts.
+    let given = c.within-work.ensures.within ∙ ap allowed (c.work_limit.ensures.work ∙ c.in-Some.ensures.limit) in
+    absurd (not_stopped g.K.Validate g.M.Matcher c.args.self.now c.args.instance.now _ c.within-work.result c.iter_errors_within.new.work given c.in-Some.ensures.limit decided (λ enough. c.in-Err.ensures.decides enough accepts) (c.in-Err.ensures.fails.limit c.in-Some.ensures.named).0)

@@ -1,8 +1,8 @@
-use Rattle.std.proofs.Common.{Bool, List, subst, sym}
+use Rattle.std.proofs.Common.{Bool, List, subst, sym, true}
 use Rattle.std.specs.Prelude.{All}
 use Rattle.serde_json.specs.View.{view}
 use Rattle.theory_definitions.specs.Guarded.{guarded_sense}
-use Rattle.theory_definitions.specs.Cover.{Sense}
+use Rattle.theory_definitions.specs.Cover.{Sense, iter_errors}
 use Rattle.theory_definitions.specs.Laws.{EachKeeps}
 use Rattle.theory_meaning.specs.Numbered.{subject_in}
 use Rattle.theory_meaning.specs.Means.{FromSomeDepth}
@@ -11,35 +11,49 @@ use Rattle.schema_reports.specs.declared.reports.ValidationError.{ValidationErro
 use Rattle.theory_meaning.proofs.SensesMeant.{of_every_sense}
 use Rattle.theory_meaning.proofs.TurnsGiveRuns.{keeps_of_turns}
 use Rattle.schema_node_table.specs.NodeTable.{numbered}
-use Rattle.schema_compiled.specs.Asked.{ErrorsFromSomeDepth}
+use Rattle.schema_compiled.specs.Asked.{DecidesFromSomeDepth, ErrorsFromSomeDepth}
 use Rattle.schema_compiled.specs.Program.{Program}
+use Rattle.schema_compiled.specs.Solved.{IsDecidedWithin}
+use Rattle.schema_compiled.specs.Taken.{TakesByRuns}
+use Rattle.schema_validator.specs.Budgets.{StaysUnstopped}
+use Rattle.schema_validator.proofs.Budgets.{stays_charged, takes_charged}
 use Rattle.schema_compiled.specs.Spoken.{EachIsGiven, ErrorsAnswered}
 use Rattle.schema_validator.proofs.Greatest.{errors_accepted}
 use Rattle.schema_validator.proofs.Pointing.{each_is_given}
 use Rattle.schema_validator.proofs.validator.Validator.iter_errors_within.Goals as goal
 
-pub returns-clause-depth : goal.returns-clause-depth
-returns-clause-depth g c =
+pub returns-in-Ok-clause-depth : goal.returns-in-Ok-clause-depth
+returns-in-Ok-clause-depth g c =
     subst (λ (p : Program g.row.K.Denot g.row.M.Denot). ErrorsFromSomeDepth g.K.Validate g.M.Matcher p (view c.args.instance.now) c.new.result) c.self.view_is
-    (subst (λ (es : List ValidationError). ErrorsFromSomeDepth g.K.Validate g.M.Matcher c.self.inside.schema (view c.args.instance.now) es) (sym c.new.ensures.errors) c.in_ok-answer.ensures.depth)
+    (subst (λ (es : List ValidationError). ErrorsFromSomeDepth g.K.Validate g.M.Matcher c.self.inside.schema (view c.args.instance.now) es) (sym c.new.ensures.errors) c.in-Ok.ensures.depth)
 
-pub returns-clause-senses : goal.returns-clause-senses
-returns-clause-senses g c = λ texts speaks.
+pub returns-in-Ok-clause-senses : goal.returns-in-Ok-clause-senses
+returns-in-Ok-clause-senses g c = λ texts speaks.
     let p = c.args.self.now in
-    of_every_sense (g.K.Validate.words texts) (g.M.Matcher.matching p.matcher) (numbered g.K.Validate.shape p.nodes) p.root (view c.args.instance.now) (λ (v : Sense). ErrorsAnswered v p.runs texts _) (returns-clause-depth g c texts speaks)
+    of_every_sense (g.K.Validate.words texts) (g.M.Matcher.matching p.matcher) (numbered g.K.Validate.shape p.nodes) p.root (view c.args.instance.now) (λ (v : Sense). ErrorsAnswered v p.runs texts _) (returns-in-Ok-clause-depth g c texts speaks)
 
-pub returns-clause-borrows : goal.returns-clause-borrows
-returns-clause-borrows g c = subst (λ (es : List ValidationError). All (BorrowsItsPlace (view c.args.instance.now)) es) (sym c.new.ensures.errors) c.in_ok-answer.ensures.borrows
+pub returns-in-Ok-clause-borrows : goal.returns-in-Ok-clause-borrows
+returns-in-Ok-clause-borrows g c = subst (λ (es : List ValidationError). All (BorrowsItsPlace (view c.args.instance.now)) es) (sym c.new.ensures.errors) c.in-Ok.ensures.borrows
 
-pub returns-clause-points : goal.returns-clause-points
-returns-clause-points g c = λ texts speaks.
+pub returns-in-Ok-clause-points : goal.returns-in-Ok-clause-points
+returns-in-Ok-clause-points g c = λ texts speaks.
     let p = c.args.self.now in
-    let deep = subst (λ (p : Program g.row.K.Denot g.row.M.Denot). ErrorsFromSomeDepth g.K.Validate g.M.Matcher p (view c.args.instance.now) c.in_ok-answer.field-0.items) c.self.view_is c.in_ok-answer.ensures.depth texts speaks in
+    let deep = subst (λ (p : Program g.row.K.Denot g.row.M.Denot). ErrorsFromSomeDepth g.K.Validate g.M.Matcher p (view c.args.instance.now) c.in-Ok.errors.items) c.self.view_is c.in-Ok.ensures.depth texts speaks in
     subst (λ (es : List ValidationError). FromSomeDepth (g.K.Validate.words texts) (g.M.Matcher.matching p.matcher) (numbered g.K.Validate.shape p.nodes) p.root (view c.args.instance.now) (λ (v : Sense). EachIsGiven v p.runs texts es)) (sym c.new.ensures.errors)
-    (deep.0, λ n more. each_is_given (guarded_sense (g.K.Validate.words texts) (g.M.Matcher.matching p.matcher) (numbered g.K.Validate.shape p.nodes) (subject_in (view c.args.instance.now)) n p.root) p.runs texts c.in_ok-answer.field-0.items (deep.1 n more))
+    (deep.0, λ n more. each_is_given (guarded_sense (g.K.Validate.words texts) (g.M.Matcher.matching p.matcher) (numbered g.K.Validate.shape p.nodes) (subject_in (view c.args.instance.now)) n p.root) p.runs texts c.in-Ok.errors.items (deep.1 n more))
 
-pub returns-clause-greatest : goal.returns-clause-greatest
-returns-clause-greatest g c =
+pub returns-in-Ok-clause-greatest : goal.returns-in-Ok-clause-greatest
+returns-in-Ok-clause-greatest g c =
     let k = g.K.Validate in
     let keeps : (texts : Bool) → EachKeeps (k.words texts) = λ texts s. (k.absorbed s, keeps_of_turns (k.words texts) s (k.absorbed s) (k.remaining s) (k.can_be texts s) (k.ends texts s) (k.fits texts s) (g.met.K.Validate.turn_laws texts s) (g.met.K.Validate.function_laws texts s)) in
-    errors_accepted k g.M.Matcher keeps c.args.self.now c.assert_ranked.ensures.ranked c.assert_ranked.ensures.inside (view c.args.instance.now) _ (returns-clause-depth g c)
+    errors_accepted k g.M.Matcher keeps c.args.self.now c.assert_ranked.ensures.ranked c.assert_ranked.ensures.inside (view c.args.instance.now) _ (returns-in-Ok-clause-depth g c)
+
+pub returns-in-Ok-clause-works : goal.returns-in-Ok-clause-works
+returns-in-Ok-clause-works g c =
+    let taken = subst (λ (p : Program g.row.K.Denot g.row.M.Denot). TakesByRuns g.K.Validate g.M.Matcher p (view c.args.instance.now) iter_errors c.args.work.now c.all_under_each.new.work) c.self.view_is c.in-Ok.ensures.works in
+    takes_charged _ _ _ c.charge.ensures g.K.Validate g.M.Matcher c.args.self.now (view c.args.instance.now) iter_errors taken
+
+pub returns-in-Err-clause-decides : goal.returns-in-Err-clause-decides
+returns-in-Err-clause-decides g c = λ decided accepts.
+    let going = subst (λ (p : Program g.row.K.Denot g.row.M.Denot). IsDecidedWithin g.K.Validate g.M.Matcher p c.args.instance.now c.args.work.now.left → DecidesFromSomeDepth g.K.Validate g.M.Matcher p (view c.args.instance.now) true → StaysUnstopped c.args.work.now c.all_under_each.new.work) c.self.view_is c.in-Err.ensures.decides in
+    stays_charged _ _ _ c.charge_failure.ensures.charged (going decided accepts)

@@ -1,6 +1,11 @@
-use Rattle.std.proofs.Common.{refl}
+use Rattle.std.proofs.Common.{◌∙◌, ap, refl}
 use Rattle.serde_json.specs.View.{view}
+use Rattle.theory_definitions.specs.Cover.{validate}
+use Rattle.schema_run_context.specs.Works.{allowed}
+use Rattle.schema_compiled.specs.Answers.{refusal_of}
 use Rattle.schema_compiled.proofs.AtLimits.{stops, tells_borrows, unless}
+use Rattle.schema_compiled.proofs.Solved.{not_stopped}
+use Rattle.schema_compiled.proofs.Taken.{runs_within}
 use Rattle.schema_validator.proofs.validator.Validator.validate.Goals as goal
 
 pub returns-in-Ok-clause-depth : goal.returns-in-Ok-clause-depth
@@ -29,3 +34,17 @@ returns-in_ok-limit_failure-in-Some-clause-points g c = stops _ _ _ _ c.in-Some.
 
 pub returns-in_ok-limit_failure-in-Some-clause-borrows : goal.returns-in_ok-limit_failure-in-Some-clause-borrows
 returns-in_ok-limit_failure-in-Some-clause-borrows g c = tells_borrows (view c.args.instance.now) c.in-Some.limit c.in_ok-limit_failure-in-Some.field-0 c.in_ok-limit_failure-in-Some.ensures.tells
+
+pub returns-in-Ok-clause-works : goal.returns-in-Ok-clause-works
+returns-in-Ok-clause-works g c = unless _ _ _ (runs_within g.K.Validate g.M.Matcher c.args.self.now (view c.args.instance.now) validate _ _ (refusal_of c.in-Ok.refusal) (c.within-work.ensures.within ∙ ap allowed c.work_limit.ensures.work) c.in-Ok.ensures.works)
+
+pub returns-in_ok-limit_failure-in-Some-clause-works : goal.returns-in_ok-limit_failure-in-Some-clause-works
+returns-in_ok-limit_failure-in-Some-clause-works g c = stops _ _ _ _ c.in-Some.ensures.limit (c.in_ok-limit_failure-in-Some.field-0, refl, c.in_ok-limit_failure-in-Some.ensures.tells)
+
+pub returns-in-Ok-clause-decides : goal.returns-in-Ok-clause-decides
+returns-in-Ok-clause-decides g c = λ decided accepts. c.in-Ok.ensures.depth
+
+pub returns-in_ok-limit_failure-in-Some-clause-decides : goal.returns-in_ok-limit_failure-in-Some-clause-decides
+returns-in_ok-limit_failure-in-Some-clause-decides g c = λ decided accepts.
+    let given = c.within-work.ensures.within ∙ ap allowed (c.work_limit.ensures.work ∙ c.in-Some.ensures.limit) in
+    absurd (not_stopped g.K.Validate g.M.Matcher c.args.self.now c.args.instance.now _ c.within-work.result c.validate_within.new.work given c.in-Some.ensures.limit decided (λ enough. c.in-Err.ensures.decides enough accepts) (c.in-Err.ensures.fails.limit c.in-Some.ensures.named).0)
