@@ -11,3 +11,4 @@ pub mod DocumentPointersLead
 pub mod DocumentUris
 pub mod DocumentKeys
 pub mod FoundWords
+pub mod FragmentNames

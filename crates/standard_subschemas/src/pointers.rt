@@ -1,5 +1,5 @@
-//! JSON pointers, and the paths that they name (RFC 6901, sections 3 and 4).
-ghost use Rattle.std.specs.Prelude.{◌≡◌, option_map, string_bytes, ◌==◌};
+//! JSON pointers, and the paths that they name (RFC 6901, sections 3, 4 and 7).
+ghost use Rattle.std.specs.Prelude.{◌≡◌, false, option_map, string_bytes, ◌==◌};
 ghost use Rattle.std.specs.List.{slice_split};
 ghost use Rattle.std.specs.Str.{all_ascii_digits};
 ghost use Rattle.std.specs.Str.Lossy.{utf8_lossy};
@@ -8,9 +8,11 @@ ghost use Rattle.serde_json.specs.Find.{unescape};
 ghost use Rattle.serde_json.specs.View.{view};
 ghost use Rattle.schema_traits.specs.SchemaViews.{schema_step_of};
 ghost use Rattle.standard_subschemas.specs.DocumentPointersLead.{PointersLead};
-ghost use Rattle.standard_subschemas.specs.DocumentPointers.{index_named, is_index, path_named, path_of_pointer, step_named};
+ghost use Rattle.standard_subschemas.specs.DocumentPointers.{has_whole_escapes, index_named, is_index, is_read, path_by_pointer};
+ghost use Rattle.standard_subschemas.specs.DocumentPointers.{ends_escape, path_named, path_of_pointer, step_named};
 ghost use Rattle.schema_traits.specs.Showing.{Yields, Shows};
 
+use crate::rules::Rule;
 use crate::steps::value_below;
 use percent_encoding::percent_decode;
 use schema_reports::OutOfMemory;
@@ -152,6 +154,59 @@ pub fn path_of_pointer(
     match pointer.strip_prefix('/') {
         Some(segments) => path_of_segments(alloc, segments, document),
         None => Ok(None),
+    }
+}
+
+fn ends_escape(byte: u8) -> bool
+    ensures ends { result ≡ ends_escape byte }
+{
+    byte == b'0' || byte == b'1'
+}
+
+/// Returns whether each `~` is followed by `0` or `1`.
+fn has_whole_escapes(pointer: &[u8]) -> bool
+    ensures whole { result ≡ has_whole_escapes false pointer.now }
+{
+    let mut begun = false;
+    for byte in pointer {
+        if begun && !ends_escape(*byte) {
+            return false;
+        }
+        begun = *byte == b'~';
+    }
+    !begun
+}
+
+/// Returns whether a text is read as a pointer: by the narrow rule, any is.
+fn is_read(rule: Rule, pointer: &str) -> bool
+    ensures read { result ≡ is_read rule pointer.now }
+{
+    match rule {
+        Rule::Narrow => true,
+        Rule::Standard => has_whole_escapes(pointer.as_bytes()),
+    }
+}
+
+/// Returns the path that a pointer names in a document, by a rule.
+///
+/// By the standard's rule a text is no pointer if a `~` stands before a character other than `0`
+/// and `1`, and then there is no path.
+///
+/// # Errors
+///
+/// Out of memory.
+pub fn path_by_pointer(
+    alloc: Global,
+    rule: Rule,
+    pointer: &str,
+    document: &Value,
+) -> Result<Option<SchemaPath>, OutOfMemory>
+    ensures path { Yields result (path_by_pointer rule pointer.now (view document.now)) }
+{
+    if is_read(rule, pointer) {
+        path_of_pointer(alloc, pointer, document)
+    } else {
+        Ok(None)
     }
 }
 

@@ -1,9 +1,10 @@
-//! References and URIs (RFC 3986, sections 3, 4 and 5.2).
+//! References and URIs (RFC 3986, sections 3, 4, 5.2 and 6.2.2.1).
 ghost use Rattle.std.specs.Prelude.{◌≡◌, option_and_then, option_map, string_bytes, unwrap_or};
 ghost use Rattle.serde_json.specs.View.{view};
 ghost use Rattle.schema_drafts.specs.KeywordViews.{draft_of};
 ghost use Rattle.standard_subschemas.specs.SubschemaRules.{identifier};
-ghost use Rattle.standard_subschemas.specs.DocumentUris.{is_absolute, own_uri, resolve_narrowly, resolve_uri, root_base};
+ghost use Rattle.uri_references.specs.Normal.{normalized};
+ghost use Rattle.standard_subschemas.specs.DocumentUris.{is_absolute, own_uri, resolve_narrowly, resolve_uri, root_base, written_uri};
 ghost use Rattle.schema_traits.specs.Showing.{Shows, Agrees};
 
 use crate::identifiers::{identifier, without_fragment};
@@ -14,7 +15,7 @@ use schema_reports::OutOfMemory;
 use schema_traits::LookupError;
 use serde_json::Value;
 use std::alloc::Global;
-use uri_references::resolve;
+use uri_references::{normalized, resolve, resolve_normally};
 
 /// Returns whether the URI has a scheme.
 ///
@@ -31,6 +32,17 @@ fn is_absolute(uri: &str) -> bool
         }
     }
     false
+}
+
+/// Returns a URI with its scheme and its host in lower case.
+///
+/// # Errors
+///
+/// Out of memory.
+pub fn normal_uri(alloc: Global, uri: &str) -> Result<String, OutOfMemory>
+    ensures normal { Shows string_bytes result (normalized uri.now) }
+{
+    normalized(alloc, uri)
 }
 
 /// Returns the URI of the schema with an identifier, read against a base.
@@ -55,10 +67,22 @@ pub fn own_uri(
             }
         }
         Rule::Standard => {
-            let uri = resolve(alloc, base, identifier)?;
+            let uri = resolve_normally(alloc, base, identifier)?;
             Ok(Some(String::from_str(alloc, without_fragment(uri.as_str()))?))
         }
     }
+}
+
+/// Returns the URI of an identifier by the standard's rule, in the case in which it is written.
+///
+/// # Errors
+///
+/// Out of memory.
+pub fn written_uri(alloc: Global, base: &str, identifier: &str) -> Result<String, OutOfMemory>
+    ensures uri { Shows string_bytes result (written_uri base.now identifier.now) }
+{
+    let uri = resolve(alloc, base, identifier)?;
+    String::from_str(alloc, without_fragment(uri.as_str()))
 }
 
 /// Returns the URI of a schema, whose identifier is read against a base.
@@ -110,8 +134,9 @@ pub fn root_base(
     match rule {
         Rule::Narrow => String::from_str(alloc, around),
         Rule::Standard => {
-            let own = uri_of(alloc, Rule::Standard, around, draft, schema)?;
-            String::from_str(alloc, or_base(&own, around))
+            let around = normal_uri(alloc, around)?;
+            let own = uri_of(alloc, Rule::Standard, around.as_str(), draft, schema)?;
+            String::from_str(alloc, or_base(&own, around.as_str()))
         }
     }
 }
@@ -139,7 +164,8 @@ fn resolve_narrowly(alloc: Global, base: &str, reference: &str) -> Result<String
 
 /// Resolves a reference against a base.
 ///
-/// By the standard's rule it is resolved as in RFC 3986, section 5.2.
+/// By the standard's rule it is resolved as in RFC 3986, section 5.2, and its scheme and host are in
+/// lower case.
 ///
 /// # Errors
 ///
@@ -155,6 +181,6 @@ pub fn resolve_uri(
 {
     match rule {
         Rule::Narrow => resolve_narrowly(alloc, base, reference),
-        Rule::Standard => Ok(resolve(alloc, base, reference)?),
+        Rule::Standard => Ok(resolve_normally(alloc, base, reference)?),
     }
 }
