@@ -12,7 +12,7 @@ use Rattle.standard_subschemas.specs.DocumentKeys.{number_in}
 use Rattle.standard_resolver.specs.ResolverAnswers.{entrance, entrance_at}
 use Rattle.standard_resolver.specs.ResolverDocuments.{Document}
 use Rattle.standard_resolver.specs.DocumentResources.{Resource, document_resource, document_resources, embedded, embedded_resources, number_of}
-use Rattle.standard_resolver.specs.DocumentResources.{resource_key, resources_of, with_resource, with_resources}
+use Rattle.standard_resolver.specs.DocumentResources.{normal_resource, resource_key, resources_of, whole_document, with_resource, with_resources}
 use Rattle.standard_resolver.specs.ResourcesGathered.{Adds, list_of}
 use Rattle.standard_resolver.specs.declared.resources.Gathered.{Gathered}
 use Rattle.standard_subschemas.proofs.Numbered.{number-append}
@@ -34,12 +34,14 @@ adds_both xs ys a b c first second = λ found.
 -- ---- the resources in documents, with one document more
 
 pub documents-append : (rule : Rule) (draft : Draft) (n : ℕ) (ds : List Document) (d : Document)
-    → document_resources rule draft n (ds ++ d ∷ []) ≡ document_resources rule draft n ds ++ document_resource rule draft (n + length ds) d
-    ∷ []
-documents-append rule draft n [] d = let e : n ≡ n + 0 = omega arith in ap (λ m. document_resource rule draft m d ∷ []) e
+    → document_resources rule draft n (ds ++ d ∷ []) ≡ document_resources rule draft n ds ++ whole_document rule draft (n + length ds) d
+documents-append rule draft n [] d = let e : n ≡ n + 0 = omega arith in append-nil (whole_document rule draft n d)
+    ∙ ap (λ m. whole_document rule draft m d) e
 documents-append rule draft n (x ∷ ds) d = let e : n + 1 + length ds ≡ n + suc (length ds) = omega arith in
-    ap (λ l. document_resource rule draft n x ∷ l) (documents-append rule draft (n + 1) ds d
-    ∙ ap (λ m. document_resources rule draft (n + 1) ds ++ document_resource rule draft m d ∷ []) e)
+    ap (λ l. whole_document rule draft n x ++ l) (documents-append rule draft (n + 1) ds d
+    ∙ ap (λ m. document_resources rule draft (n + 1) ds ++ whole_document rule draft m d) e)
+    ∙ sym (append_assoc (whole_document rule draft n x) (document_resources rule draft (n + 1) ds)
+    (whole_document rule draft (n + suc (length ds)) d))
 
 pub embedded-append : (rule : Rule) (draft : Draft) (n : ℕ) (ds : List Document) (d : Document)
     → embedded_resources rule draft n (ds ++ d ∷ []) ≡ embedded_resources rule draft n ds ++ embedded rule draft (n + length ds) d
@@ -93,7 +95,7 @@ root_found rule draft d ds =
     (is_entered (resources_of rule draft (d ∷ ds)) 0 (document_resource rule draft 0 d) h.there)) where
       h : Stays (without_fragment d.uri) 0 (document_resource rule draft 0 d) (resources_of rule draft (d ∷ ds))
       h = stays (embedded_resources rule draft 0 (d ∷ ds)) _ 0 (document_resource rule draft 0 d) _
-          (stays (document_resources rule draft 1 ds) _ 0 (document_resource rule draft 0 d) _
+          (stays (normal_resource rule draft 0 d ++ document_resources rule draft 1 ds) _ 0 (document_resource rule draft 0 d) _
           (first_stays (document_resource rule draft 0 d)))
 
 -- ---- turns of the code
@@ -133,13 +135,12 @@ module _ {A B : Type 0} (rule : Rule) (draft : Draft) (first : Document) (f : A 
     number = omega (arith, taken_length f g xs i less)
 
     pub next_document : Adds (document_resources rule draft 0 (some_of i)) old new
-        → Adds (document_resource rule draft (i + 1) (g (f x)) ∷ []) new later
+        → Adds (whole_document rule draft (i + 1) (g (f x))) new later
         → Adds (document_resources rule draft 0 (some_of (i + 1))) old later
     next_document so_far added = subst (λ rs. Adds rs old later)
-        (ap (λ m. document_resources rule draft 0 (some_of i) ++ document_resource rule draft m (g (f x)) ∷ []) number
+        (ap (λ m. document_resources rule draft 0 (some_of i) ++ whole_document rule draft m (g (f x))) number
         ∙ sym (documents-append rule draft 0 (some_of i) (g (f x))) ∙ ap (document_resources rule draft 0) (sym taken))
-        (adds_both (document_resources rule draft 0 (some_of i)) (document_resource rule draft (i + 1) (g (f x)) ∷ []) old new later so_far
-        added)
+        (adds_both (document_resources rule draft 0 (some_of i)) (whole_document rule draft (i + 1) (g (f x))) old new later so_far added)
 
     pub next_embedded : Adds (embedded_resources rule draft 0 (some_of i)) old new → Adds (embedded rule draft (i + 1) (g (f x))) new later
         → Adds (embedded_resources rule draft 0 (some_of (i + 1))) old later
@@ -157,5 +158,5 @@ module _ {A B : Type 0} (rule : Rule) (draft : Draft) (first : Document) (f : A 
   all_embedded l = subst (λ ds. Adds (embedded_resources rule draft 0 (first ∷ ds)) old new) (all_taken f g xs i l)
 
 -- the resources of the root document only
-pub only_embedded : (rs : List Resource) (old new : Gathered) → Adds rs old new → Adds (rs ++ []) old new
-only_embedded rs old new = subst (λ qs. Adds qs old new) (sym (append-nil rs))
+pub only_first : (rs : List Resource) (old new : Gathered) → Adds rs old new → Adds (rs ++ []) old new
+only_first rs old new = subst (λ qs. Adds qs old new) (sym (append-nil rs))

@@ -23,6 +23,7 @@ row_handed_in : row.RootIsFoundAsHandedIn
 row_handed_in = refl
 
 row_fragment : row.EmptyFragment
+unfolding percent_decode utf8_lossy utf8_valid_len utf8_error_len is_utf8 chars encode unescape
 row_fragment = refl
 
 row_absent : row.AbsentIsRefused
@@ -31,6 +32,22 @@ row_absent = refl
 row_through : row.PointerChangesTheBase
 unfolding percent_decode utf8_lossy utf8_valid_len utf8_error_len is_utf8 chars encode unescape
 row_through = refl
+
+row_inner : row.InnerUriLeadsThere
+unfolding percent_decode utf8_lossy utf8_valid_len utf8_error_len is_utf8 chars encode unescape
+row_inner = refl
+
+row_cased : row.CaseOfHosts
+row_cased = refl
+
+row_path_case : row.CaseOfPaths
+row_path_case = refl
+
+row_supplied : row.SuppliedUriIsRead
+row_supplied = refl
+
+row_supplied_found : row.SuppliedUriIsFound
+row_supplied_found = refl
 
 row_tree : row.TreeOfNodes
 row_tree = refl
@@ -51,31 +68,47 @@ row_sibling_base : row.SiblingKeepsTheBase
 row_sibling_base = refl
 
 row_independent : row.LocationIndependent
+unfolding percent_decode utf8_lossy utf8_valid_len utf8_error_len is_utf8 chars encode unescape
 row_independent = refl
 
 row_independent_nested : row.LocationIndependentNested
+unfolding percent_decode utf8_lossy utf8_valid_len utf8_error_len is_utf8 chars encode unescape
 row_independent_nested = refl
+
+row_decoded : row.NameIsDecoded
+unfolding percent_decode utf8_lossy utf8_valid_len utf8_error_len is_utf8 chars encode unescape
+row_decoded = refl
+
+row_decoded_identifier : row.IdentifierIsDecoded
+unfolding percent_decode utf8_lossy utf8_valid_len utf8_error_len is_utf8 chars encode unescape
+row_decoded_identifier = refl
 
 row_no_resource : row.FragmentOpensNoResource
 unfolding percent_decode utf8_lossy utf8_valid_len utf8_error_len is_utf8 chars encode unescape
 row_no_resource = refl
 
 row_late_fragment : row.LateFragmentIsNoName
+unfolding percent_decode utf8_lossy utf8_valid_len utf8_error_len is_utf8 chars encode unescape
 row_late_fragment = refl
 
 row_both : row.FragmentAndUri
+unfolding percent_decode utf8_lossy utf8_valid_len utf8_error_len is_utf8 chars encode unescape
 row_both = refl
 
 row_anchor : row.AnchorIsAName
+unfolding percent_decode utf8_lossy utf8_valid_len utf8_error_len is_utf8 chars encode unescape
 row_anchor = refl
 
 row_early_anchor : row.EarlyAnchorIsNone
+unfolding percent_decode utf8_lossy utf8_valid_len utf8_error_len is_utf8 chars encode unescape
 row_early_anchor = refl
 
 row_dynamic : row.DynamicAnchorIsAName
+unfolding percent_decode utf8_lossy utf8_valid_len utf8_error_len is_utf8 chars encode unescape
 row_dynamic = refl
 
 row_early_dynamic : row.EarlyDynamicAnchorIsNone
+unfolding percent_decode utf8_lossy utf8_valid_len utf8_error_len is_utf8 chars encode unescape
 row_early_dynamic = refl
 
 row_enumerated : row.EnumHasNoSchemas
@@ -87,6 +120,14 @@ row_unknown = refl
 row_pointer : row.PointersLeadAnywhere
 unfolding percent_decode utf8_lossy utf8_valid_len utf8_error_len is_utf8 chars encode unescape
 row_pointer = refl
+
+row_odd_escape : row.OddEscapeIsNone
+unfolding percent_decode utf8_lossy utf8_valid_len utf8_error_len is_utf8 chars encode unescape
+row_odd_escape = refl
+
+row_escape : row.EscapeIsOne
+unfolding percent_decode utf8_lossy utf8_valid_len utf8_error_len is_utf8 chars encode unescape
+row_escape = refl
 
 row_lists : row.ListsOfItems
 row_lists = refl
@@ -116,6 +157,11 @@ rows_hold = record {
   fragment = row_fragment;
   absent = row_absent;
   through = row_through;
+  inner = row_inner;
+  cased = row_cased;
+  path_case = row_path_case;
+  supplied = row_supplied;
+  supplied_found = row_supplied_found;
   tree = row_tree;
   node = row_node;
   early = row_early;
@@ -124,6 +170,8 @@ rows_hold = record {
   sibling_base = row_sibling_base;
   independent = row_independent;
   independent_nested = row_independent_nested;
+  decoded = row_decoded;
+  decoded_identifier = row_decoded_identifier;
   no_resource = row_no_resource;
   late_fragment = row_late_fragment;
   both = row_both;
@@ -134,6 +182,8 @@ rows_hold = record {
   enumerated = row_enumerated;
   unknown = row_unknown;
   pointer = row_pointer;
+  odd_escape = row_odd_escape;
+  escape = row_escape;
   lists = row_lists;
   one_schema = row_one_schema;
   no_if = row_no_if;

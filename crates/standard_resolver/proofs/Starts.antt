@@ -25,12 +25,12 @@ use Rattle.standard_subschemas.specs.declared.rules.Rule.TheVariants.{Narrow, St
 use Rattle.standard_subschemas.specs.SubschemaRules.{data_of, detected, fragment_of, identifier, without_fragment}
 use Rattle.standard_resolver.specs.ResolverDocuments.{HeldDocuments, Document, documents_of, value_in}
 use Rattle.standard_subschemas.specs.DocumentKeys.{has_text, number_in}
-use Rattle.standard_subschemas.specs.DocumentPointers.{path_named, path_of_pointer, step_named}
+use Rattle.standard_subschemas.specs.DocumentPointers.{is_read, path_by_pointer, path_named, path_of_pointer, step_named}
 use Rattle.standard_subschemas.specs.DocumentUris.{own_uri, resolve_uri}
 use Rattle.standard_resolver.specs.DocumentResources.{Resource, Table, Visited, base_in, document_resources, embedded, embedded_resources}
 use Rattle.standard_resolver.specs.DocumentResources.{identified as resources_at, number_of, place_of_resource, resource_if, resource_key}
 use Rattle.standard_resolver.specs.DocumentResources.{resources_of, uri_at, walked, with_resource, with_resources}
-use Rattle.standard_resolver.specs.DocumentStates.{Point, enter, entered_below, entered_by, no_identified, number_if_at, resource_under, root_of}
+use Rattle.standard_resolver.specs.DocumentStates.{Point, enter, entered_by, entered_inner, no_identified, number_if_at, resource_under, root_of, state_outside}
 use Rattle.standard_resolver.specs.DocumentLookups.{arrived, is_subschema, target_by_path, target_by_pointer, target_in, target_of_uri}
 use Rattle.standard_resolver.specs.DocumentLookups.{target_under}
 use Rattle.standard_resolver.specs.ResolverAnswers.{document_resolving, table_of}
@@ -105,15 +105,19 @@ module _ (table : Table) where
   by_uri p id s inside None h = absurd (let no : ⊥ = cc in no)
   by_uri p id s inside (Some uri) h = by_number p id uri s inside (number_of uri table.resources) refl h
 
-  by_identifier : (p outside : SchemaPlace) (s inside : Point) (o : Option Text) → root_of table s ≡ outside
-      → elim o as (λ _. Result Point Text) [ None ↦ Ok s | Some id ↦ entered_by table p id s (own_uri table.rule s.base id) ] ≡ Ok inside
+  by_identifier : (p outside : SchemaPlace) (before s inside : Point) (o : Option Text) → root_of table s ≡ outside
+      → elim o as (λ _. Result Point Text) [
+        | None ↦ Ok s
+        | Some id ↦ entered_by table p id (state_outside table.rule before s) (own_uri table.rule s.base id)
+      ] ≡ Ok inside
       → root_of table inside ≡ cond (is_some o) p outside
-  by_identifier p outside s inside None was h = let same : s ≡ inside = cc in subst (λ q. root_of table q ≡ outside) same was
-  by_identifier p outside s inside (Some id) was h = by_uri p id s inside (own_uri table.rule s.base id) h
+  by_identifier p outside before s inside None was h = let same : s ≡ inside = cc in subst (λ q. root_of table q ≡ outside) same was
+  by_identifier p outside before s inside (Some id) was h =
+      by_uri p id (state_outside table.rule before s) inside (own_uri table.rule s.base id) h
 
 -- ---- along a path below a resource's root
 
-module _ (table : Table) (reference : Text) (document : ℕ) (root : Place) where
+module _ (table : Table) (reference : Text) (document : ℕ) (before : Point) (root : Place) where
   abbrev pub at : Place → SchemaPlace
   at p = record { document = document; path = root ++ p }
 
@@ -128,7 +132,7 @@ module _ (table : Table) (reference : Text) (document : ℕ) (root : Place) wher
   Along path = (draft : Draft) (schema : Data) (since : Place) (reached : Data) (gone last rest gone_in : Place) (s : Point)
       (f : Found Point)
       → gone ≡ last ++ rest → gone_in ≡ root ++ gone → root_of table s ≡ at last
-      → arrived table reference document draft schema since reached gone_in s path ≡ Ok f
+      → arrived table reference document before draft schema since reached gone_in s path ≡ Ok f
       → Lies (innermost_along table.rule draft schema since reached gone last path) (gone ++ path) f
 
   longer : (gone step last rest : Place) → gone ≡ last ++ rest → gone ++ step ≡ last ++ (rest ++ step)
@@ -150,7 +154,7 @@ module _ (table : Table) (reference : Text) (document : ℕ) (root : Place) wher
   module _ (step : Step) (path : Place) (ih : Along path) (draft : Draft) (schema : Data) (since : Place) (reached : Data)
       (gone last rest gone_in : Place) (s : Point) (f : Found Point)
       (within : gone ≡ last ++ rest) (same : gone_in ≡ root ++ gone) (begins : root_of table s ≡ at last)
-      (h : arrived table reference document draft schema since reached gone_in s (step ∷ path) ≡ Ok f) where
+      (h : arrived table reference document before draft schema since reached gone_in s (step ∷ path) ≡ Ok f) where
     abbrev Goal : Type 0
     Goal = Lies (innermost_along table.rule draft schema since reached gone last (step ∷ path)) (gone ++ step ∷ path) f
 
@@ -166,7 +170,7 @@ module _ (table : Table) (reference : Text) (document : ℕ) (root : Place) wher
           let inner : innermost_along table.rule draft schema since reached gone last (step ∷ path)
           ≡ innermost_along table.rule draft schema (since ++ step ∷ []) below (gone ++ step ∷ []) last path =
           rw (stands, e, innermost_along) refl in
-          let found = sym (arrives_past table reference document draft schema since reached gone_in s step path below stands e) ∙ h in
+          let found = sym (arrives_past table reference document before draft schema since reached gone_in s step path below stands e) ∙ h in
           let lies = ih draft schema (since ++ step ∷ []) below (gone ++ step ∷ []) last (rest ++ step ∷ []) (gone_in ++ step ∷ []) s f
           (longer gone (step ∷ []) last rest within) next begins found in
           subst (λ p. Lies p (gone ++ step ∷ path) f) (sym inner)
@@ -181,16 +185,16 @@ module _ (table : Table) (reference : Text) (document : ℕ) (root : Place) wher
         identified = is_some (identifier (detected draft below) below)
 
         -- the last subschema with an identifier, and the path from there
-        inside : (state : Point) → entered_below table s (detected draft below) here below ≡ Ok state → (b : Bool) → identified ≡ b → Goal
+        inside : (state : Point) → entered_inner table before s (detected draft below) here below ≡ Ok state → (b : Bool) → identified ≡ b → Goal
         inside state entered b was =
             let inner : innermost_along table.rule draft schema since reached gone last (step ∷ path)
             ≡ innermost_along table.rule (detected draft below) below
             [] below (gone ++ step ∷ []) (cond b (gone ++ step ∷ []) last) path
             = rw (stands, is, was, innermost_along) refl in
-            let found = sym (arrives_inside table reference document draft schema since reached gone_in s step path below stands state is
+            let found = sym (arrives_inside table reference document before draft schema since reached gone_in s step path below stands state is
             entered) ∙ h in
             let from : root_of table state ≡ cond b here (at last) =
-            by_identifier table here (at last) s state (identifier (detected draft below) below) begins entered
+            by_identifier table here (at last) before s state (identifier (detected draft below) below) begins entered
             ∙ ap (λ v. cond v here (at last)) was in
             let go : (v : Bool) → root_of table state ≡ cond v here (at last)
             → Lies (innermost_along table.rule (detected draft below) below
@@ -207,19 +211,19 @@ module _ (table : Table) (reference : Text) (document : ℕ) (root : Place) wher
             (subst (λ p. Lies (innermost_along table.rule (detected draft below) below
             [] below (gone ++ step ∷ []) (cond b (gone ++ step ∷ []) last) path) p f) whole (go b from))
 
-        subschema : (o : Result Point Text) → entered_below table s (detected draft below) here below ≡ o → Goal
+        subschema : (o : Result Point Text) → entered_inner table before s (detected draft below) here below ≡ o → Goal
         subschema (Ok state) e = inside state e identified refl
         subschema (Err text) e =
-            absurd (let no = sym (arrives_refused table reference document draft schema since reached gone_in s step path below stands text
+            absurd (let no = sym (arrives_refused table reference document before draft schema since reached gone_in s step path below stands text
             is e) ∙ h in let never : ⊥ = cc in never)
 
       either : (b : Bool) → is_subschema table.rule draft (since ++ step ∷ []) schema ≡ b → Goal
       either false e = past e
       either true e = subschema e
-          (entered_below table s (detected draft below) (record { document = document; path = gone_in ++ step ∷ [] }) below) refl
+          (entered_inner table before s (detected draft below) (record { document = document; path = gone_in ++ step ∷ [] }) below) refl
 
     one_step : (o : Option Data) → data_of (after_step step (a_value reached)) ≡ o → Goal
-    one_step None e = absurd (let no = sym (arrives_nowhere table reference document draft schema since reached gone_in s step path e)
+    one_step None e = absurd (let no = sym (arrives_nowhere table reference document before draft schema since reached gone_in s step path e)
         ∙ h in let never : ⊥ = cc in never)
     one_step (Some below) e = either below e (is_subschema table.rule draft (since ++ step ∷ []) schema) refl
 
@@ -286,6 +290,11 @@ pointer_count (x ∷ xs) d path h = go (x == 47) refl h where
       (named_count (slice_split (λ y. y == 47) xs) d path e)
   go false is e = absurd (let no : ⊥ = cc in no)
 
+-- a pointer that is read names the path that it names by any rule
+read_path : (b : Bool) (o : Option Place) (path : Place) → cond b o None ≡ Some path → o ≡ Some path
+read_path true o path e = e
+read_path false o path e = absurd (let no : ⊥ = cc in no)
+
 -- ---- a lookup by a pointer
 
 module _ (r : HeldDocuments) (stand : BasesStand (table_of r)) (s : Point) (reference uri tail : Text) (dynamic : Bool)
@@ -308,18 +317,19 @@ module _ (r : HeldDocuments) (stand : BasesStand (table_of r)) (s : Point) (refe
   module _ (n : ℕ) (x : Resource) (number : number_of (without_fragment uri) table.resources ≡ Some n) (there : slice_get table.resources n
       ≡ Some x) where
     by_path : (schema : Data) → value_in (documents_of r) (place_of_resource x) ≡ Some schema → (o : Option Place)
-        → path_of_pointer pointer schema ≡ o
-        → target_by_path table reference x (enter n x.base s) schema o ≡ Ok f → Starts
-    by_path schema stands None is h = absurd (let no : ⊥ = cc in no)
-    by_path schema stands (Some path) is h =
+        → path_by_pointer table.rule pointer schema ≡ o
+        → target_by_path table reference x s (enter n x.base s) schema o ≡ Ok f → Starts
+    by_path schema stands None by h = absurd (let no : ⊥ = cc in no)
+    by_path schema stands (Some path) by h =
+        let is = read_path (is_read table.rule pointer) (path_of_pointer pointer schema) path by in
         let inner = innermost_along table.rule x.draft schema [] schema [] [] path in
         let begin : root_of table (enter n x.base s) ≡ place_of_resource x
         = stand (without_fragment uri) n x s number there in
         let at_root : place_of_resource x ≡ record { document = x.document; path = x.path ++ [] }
         = ap (λ (p : Place). let q : SchemaPlace = record { document = x.document; path = p } in q) (sym (append-nil x.path)) in
-        let lies = along table reference x.document x.path path x.draft schema [] schema [] []
+        let lies = along table reference x.document s x.path path x.draft schema [] schema [] []
         [] x.path (enter n x.base s) f refl (sym (append-nil x.path)) (begin ∙ at_root) h in
-        let depth = depth_is table reference x.document x.path inner path f (segment_count pointer) lies
+        let depth = depth_is table reference x.document s x.path inner path f (segment_count pointer) lies
         (pointer_count pointer schema path is) in
         let known : resource_under table (without_fragment uri) ≡ Some x = ap (option_and_then (slice_get table.resources)) number
         ∙ there in
@@ -331,9 +341,9 @@ module _ (r : HeldDocuments) (stand : BasesStand (table_of r)) (s : Point) (refe
         ap (λ d. segments_length d pointer) (depth ∙ ap length (sym under))
 
     by_pointer : (o : Option Data) → value_in (documents_of r) (place_of_resource x) ≡ o
-        → target_by_pointer table reference x (enter n x.base s) (47 ∷ tail) o ≡ Ok f → Starts
+        → target_by_pointer table reference x s (enter n x.base s) (47 ∷ tail) o ≡ Ok f → Starts
     by_pointer None is h = absurd (let no : ⊥ = cc in no)
-    by_pointer (Some schema) is h = by_path schema is (path_of_pointer pointer schema) refl h
+    by_pointer (Some schema) is h = by_path schema is (path_by_pointer table.rule pointer schema) refl h
 
   in_resource : (n : ℕ) → number_of (without_fragment uri) table.resources ≡ Some n → (o : Option Resource) → slice_get table.resources n
       ≡ o

@@ -2,7 +2,7 @@
 use Rattle.std.proofs.Common.{◌≡◌, ◌∙◌, ◌<◌, ◌≤◌, ◌+◌, ◌-◌, ℕ, zero, suc, Bool, true, false, List, [], ◌∷◌, ◌++◌, Option, cond, drop}
 use Rattle.std.proofs.Common.{length, length-append, map, get_or, refl, sym, ap, subst, arith, append-nil, append_assoc, option_and_then}
 use Rattle.std.proofs.Common.{take}
-use Rattle.std.specs.Prelude.{None, Some, flat_map, is_some, ◌||◌}
+use Rattle.std.specs.Prelude.{None, Some, flat_map, is_some, option_map, ◌||◌}
 use Rattle.std.specs.List.{filter}
 use Rattle.std.proofs.lemmas.List.{drop_all, drop_more, flat_map_more}
 use Rattle.std.proofs.lemmas.List.Elements.{filter-append}
@@ -12,6 +12,7 @@ use Rattle.theory_definitions.specs.Drafts.{Draft}
 use Rattle.theory_definitions.specs.Instance.{Place, Subject, Text, a_name, a_value, subject_at}
 use Rattle.theory_meaning.proofs.Falls.{path_falls}
 use Rattle.standard_subschemas.specs.declared.rules.Rule.{Rule}
+use Rattle.standard_subschemas.specs.FragmentNames.{name_read}
 use Rattle.standard_subschemas.specs.SubschemaRules.{data_of, detected, dynamic_name, identifier, plain_name, subschemas}
 use Rattle.standard_subschemas.specs.FoundSchemas.{Found, found_at}
 use Rattle.standard_subschemas.specs.FoundViews.{found_of, path_of}
@@ -214,17 +215,18 @@ skips p f none (x ∷ xs) = go (p x) refl (skips p f none xs)
     go true e rest = ap (λ ys. f x ++ ys) rest
     go false e rest = rest ∙ ap (λ ys. ys ++ flat_map f xs) (sym (none x e))
 
-no_names : (v : Visited) (a b : Option Text) → (is_some a || is_some b) ≡ false → name_if a false v ++ name_if b true v ≡ []
-no_names v None None e = refl
-no_names v None (Some y) e = absurd (let none : ⊥ = cc in none)
-no_names v (Some x) b e = absurd (let none : ⊥ = cc in none)
+no_names : (v : Visited) (read : Text → Text) (a b : Option Text) → (is_some a || is_some b) ≡ false
+    → name_if (option_map read a) false v ++ name_if b true v ≡ []
+no_names v read None None e = refl
+no_names v read None (Some y) e = absurd (let none : ⊥ = cc in none)
+no_names v read (Some x) b e = absurd (let none : ⊥ = cc in none)
 
 -- names are in the schemas that are kept
 pub names_kept : (rule : Rule) (vs kept : List Visited) → kept ≡ filter (speaking rule false) vs → flat_map (names_at rule) vs
     ≡ flat_map (names_at rule) kept
 names_kept rule vs kept e =
     sym (skips (speaking rule false) (names_at rule)
-    (λ v. no_names v (plain_name rule v.draft v.schema) (dynamic_name rule v.draft v.schema)) vs) ∙ ap (flat_map (names_at rule)) (sym e)
+    (λ v. no_names v (name_read rule v.draft) (plain_name rule v.draft v.schema) (dynamic_name rule v.draft v.schema)) vs) ∙ ap (flat_map (names_at rule)) (sym e)
 
 no_uri : (rule : Rule) (document : ℕ) (v : Visited) (o : Option Text) → is_some o ≡ false
     → resource_if rule document v (option_and_then (own_uri rule v.base) o) ≡ []

@@ -1,4 +1,6 @@
--- The targets of references: a resource under a URI, and in it the target of a pointer or a name.
+-- The targets of references: a resource under a URI, and in it the target of a pointer or a name. By
+-- the standard's rule a pointer that passes into inner resources enters the innermost one alone, so
+-- that the state does not depend on the URI by which a target is reached.
 -- (Core 2020-12, sections 8.2.1 to 8.2.3; Core 2019-09, section 8.2.4.2; RFC 3986, section 3.5; RFC
 -- 6901, section 6)
 use Rattle.std.specs.List.{list_any}
@@ -14,10 +16,11 @@ use Rattle.standard_subschemas.specs.declared.rules.Rule.{Rule}
 use Rattle.standard_subschemas.specs.declared.rules.Rule.TheVariants.{Narrow, Standard}
 use Rattle.standard_subschemas.specs.SubschemaRules.{data_of, detected, fragment_of, subschemas, without_fragment}
 use Rattle.standard_resolver.specs.ResolverDocuments.{Document, value_in}
-use Rattle.standard_subschemas.specs.DocumentPointers.{path_of_pointer}
+use Rattle.standard_subschemas.specs.DocumentPointers.{path_by_pointer}
 use Rattle.standard_subschemas.specs.DocumentUris.{resolve_uri}
 use Rattle.standard_resolver.specs.DocumentResources.{Name, Resource, Table, dynamic_number, name_number, number_of, place_of_resource}
-use Rattle.standard_resolver.specs.DocumentStates.{Point, enter, entered_below}
+use Rattle.standard_subschemas.specs.FragmentNames.{name_in_fragment}
+use Rattle.standard_resolver.specs.DocumentStates.{Point, enter, entered_inner}
 
 -- the texts of refusals, which name the reference
 abbrev pub no_resource : Text → Text
@@ -53,33 +56,33 @@ module _ (table : Table) where
   -- The target at the end of a path. The walk goes from a resource's root through subschemas:
   -- `since` leads from the last of them to the value reached so far, and `gone` leads there from
   -- the document's root. The draft is detected at each subschema on the path and at the target, and
-  -- each subschema with an identifier is entered.
-  abbrev pub arrived : Text → ℕ → Draft → Data → Place → Data → Place → Point → Place → Result (Found Point) Text
-  arrived reference document draft schema since reached gone s [] =
+  -- each subschema with an identifier is entered. `before` is the state before the pointer.
+  abbrev pub arrived : Text → ℕ → Point → Draft → Data → Place → Data → Place → Point → Place → Result (Found Point) Text
+  arrived reference document before draft schema since reached gone s [] =
       Ok (record { place = record { document = document; path = gone }; state = s; draft = detected draft reached })
-  arrived reference document draft schema since reached gone s (step ∷ path) = elim (data_of (after_step step (a_value reached))) [
+  arrived reference document before draft schema since reached gone s (step ∷ path) = elim (data_of (after_step step (a_value reached))) [
     | None ↦ Err (nothing_there reference)
     | Some below ↦ elim (is_subschema table.rule draft (since ++ step ∷ []) schema) [
-      | false ↦ arrived reference document draft schema (since ++ step ∷ []) below (gone ++ step ∷ []) s path
-      | true ↦ elim (entered_below table s (detected draft below) (record { document = document; path = gone ++ step ∷ [] }) below) [
+      | false ↦ arrived reference document before draft schema (since ++ step ∷ []) below (gone ++ step ∷ []) s path
+      | true ↦ elim (entered_inner table before s (detected draft below) (record { document = document; path = gone ++ step ∷ [] }) below) [
         | Err text ↦ Err text
-        | Ok inside ↦ arrived reference document (detected draft below) below [] below (gone ++ step ∷ []) inside path
+        | Ok inside ↦ arrived reference document before (detected draft below) below [] below (gone ++ step ∷ []) inside path
       ]
     ]
   ]
 
   -- ---- pointers
 
-  -- the target at a path below a resource's root
-  abbrev pub target_by_path : Text → Resource → Point → Data → Option Place → Result (Found Point) Text
-  target_by_path reference r s schema None = Err (nothing_there reference)
-  target_by_path reference r s schema (Some path) = arrived reference r.document r.draft schema [] schema r.path s path
+  -- the target at a path below a resource's root, where the state is s
+  abbrev pub target_by_path : Text → Resource → Point → Point → Data → Option Place → Result (Found Point) Text
+  target_by_path reference r before s schema None = Err (nothing_there reference)
+  target_by_path reference r before s schema (Some path) = arrived reference r.document before r.draft schema [] schema r.path s path
 
   -- the target of a pointer, which is percent-decoded and read from the resource's root
-  abbrev pub target_by_pointer : Text → Resource → Point → Text → Option Data → Result (Found Point) Text
-  target_by_pointer reference r s pointer None = Err (nothing_there reference)
-  target_by_pointer reference r s pointer (Some schema) =
-      target_by_path reference r s schema (path_of_pointer (utf8_lossy (percent_decode pointer)) schema)
+  abbrev pub target_by_pointer : Text → Resource → Point → Point → Text → Option Data → Result (Found Point) Text
+  target_by_pointer reference r before s pointer None = Err (nothing_there reference)
+  target_by_pointer reference r before s pointer (Some schema) =
+      target_by_path reference r before s schema (path_by_pointer table.rule (utf8_lossy (percent_decode pointer)) schema)
 
   -- ---- names
 
@@ -106,12 +109,17 @@ module _ (table : Table) where
 
   -- ---- references
 
+  -- the target of a name, if the resource has it
+  abbrev pub target_of_name : Text → ℕ → Resource → Point → Bool → Text → Result (Found Point) Text
+  target_of_name reference n r s dynamic name =
+      target_by_name reference n r s dynamic name (option_and_then (slice_get r.names) (name_number name r.names))
+
   -- the target of a fragment: nothing, a pointer, or a name
   abbrev pub target_by_fragment : List Document → Text → ℕ → Resource → Point → Bool → Text → Result (Found Point) Text
   target_by_fragment documents reference n r s dynamic [] = Ok (target_root n r s)
-  target_by_fragment documents reference n r s dynamic (x ∷ xs) = if x == 47 then target_by_pointer reference r (enter n r.base s) (x ∷ xs)
+  target_by_fragment documents reference n r s dynamic (x ∷ xs) = if x == 47 then target_by_pointer reference r s (enter n r.base s) (x ∷ xs)
       (value_in documents (place_of_resource r))
-      else target_by_name reference n r s dynamic (x ∷ xs) (option_and_then (slice_get r.names) (name_number (x ∷ xs) r.names))
+      else target_of_name reference n r s dynamic (name_in_fragment table.rule (x ∷ xs))
 
   abbrev pub target_in : List Document → Text → Text → Point → Bool → Text → ℕ → Option Resource → Result (Found Point) Text
   target_in documents reference uri s dynamic fragment n None = Err (not_at_hand table.rule reference uri)

@@ -1,7 +1,9 @@
 -- The resources in documents, and the names in them. A resource is a document, or a subschema with
 -- an identifier together with its subschemas, up to those with another identifier. A name is an
 -- `$anchor` or a `$dynamicAnchor`; by the standard's rule it is the fragment of an identifier in
--- drafts 4 to 7. (Core 2020-12, sections 4.3.5, 8.2.1 and 8.2.2; draft-07 Core, section 8.2)
+-- drafts 4 to 7. By the standard's rule the URI that a reference means is in normal form, so a
+-- document is found under its URIs in this form, and as they are written. (Core 2020-12, sections
+-- 4.3.5, 8.2.1 and 8.2.2; draft-07 Core, section 8.2; RFC 3986, section 6.2.2.1)
 use Rattle.std.specs.Prelude.{Bool, List, None, Option, Some, [], codes, false, flat_map, if◌then◌else◌, is_some, map, not}
 use Rattle.std.specs.Prelude.{option_and_then, suc, true, unwrap_or, zero, ℕ, ◌++◌, ◌+◌, ◌||◌, ◌∷◌}
 use Rattle.serde_json.specs.Data.{Data, depth}
@@ -10,10 +12,12 @@ use Rattle.theory_definitions.specs.Instance.{Place, Text, subject_at}
 use Rattle.theory_definitions.specs.Drafts.{Draft, SchemaPlace}
 use Rattle.standard_subschemas.specs.declared.rules.Rule.{Rule}
 use Rattle.standard_subschemas.specs.declared.rules.Rule.TheVariants.{Narrow, Standard}
-use Rattle.standard_subschemas.specs.SubschemaRules.{data_of, detected, dynamic_name, identifier, plain_name, subschemas, without_fragment}
+use Rattle.standard_subschemas.specs.FragmentNames.{schema_name}
+use Rattle.standard_subschemas.specs.SubschemaRules.{data_of, detected, dynamic_name, identifier, subschemas, without_fragment}
 use Rattle.standard_resolver.specs.ResolverDocuments.{Document}
 use Rattle.standard_subschemas.specs.DocumentKeys.{number_in}
-use Rattle.standard_subschemas.specs.DocumentUris.{base_inside, own_uri, root_base}
+use Rattle.standard_subschemas.specs.DocumentUris.{base_inside, own_uri, root_base, written_uri}
+use Rattle.uri_references.specs.Normal.{normalized, resolved_normally}
 
 -- ---- the walk
 
@@ -67,7 +71,7 @@ name_if (Some t) dynamic v = record { name = t; path = v.path; draft = v.draft; 
 
 -- the names of a schema: its name, and then its dynamic name
 abbrev pub names_at : Rule → Visited → List Name
-names_at rule v = name_if (plain_name rule v.draft v.schema) false v ++ name_if (dynamic_name rule v.draft v.schema) true v
+names_at rule v = name_if (schema_name rule v.draft v.schema) false v ++ name_if (dynamic_name rule v.draft v.schema) true v
 
 -- the names of a resource that begins with a schema, in the order of the walk: the schema's own,
 -- and those of the subschemas without an identifier; the base does not matter
@@ -135,6 +139,16 @@ base_in rule draft d = root_base rule d.uri (detected draft d.value) d.value
 abbrev pub document_resource : Rule → Draft → ℕ → Document → Resource
 document_resource rule draft number d = resource_of rule (without_fragment d.uri) (base_in rule draft d) number (root_visited draft d)
 
+-- the whole document, under this URI in normal form, by the standard's rule only
+abbrev pub normal_resource : Rule → Draft → ℕ → Document → List Resource
+normal_resource Narrow draft number d = []
+normal_resource Standard draft number d = resource_of Standard (normalized (without_fragment d.uri)) (base_in Standard draft d) number
+    (root_visited draft d) ∷ []
+
+-- the whole document, under each of its URIs
+abbrev pub whole_document : Rule → Draft → ℕ → Document → List Resource
+whole_document rule draft number d = document_resource rule draft number d ∷ normal_resource rule draft number d
+
 -- the resource of a schema, if it has a URI
 abbrev pub resource_if : Rule → ℕ → Visited → Option Text → List Resource
 resource_if rule document v None = []
@@ -146,10 +160,20 @@ uri_at rule v = option_and_then (own_uri rule v.base) (identifier v.draft v.sche
 abbrev pub identified : Rule → ℕ → Visited → List Resource
 identified rule number v = resource_if rule number v (uri_at rule v)
 
+-- a document under its root's identifier in the case in which it is written, since a build may ask
+-- for it so; by the standard's rule only
+abbrev pub written_if : ℕ → Visited → Option Text → List Resource
+written_if number root None = []
+written_if number root (Some id) = resource_of Standard (written_uri root.base id) (without_fragment (resolved_normally root.base id)) number
+    root ∷ []
+
+abbrev pub written_root : ℕ → Visited → List Resource
+written_root number root = written_if number root (identifier root.draft root.schema)
+
 -- the document under its root's identifier, by the standard's rule only
 abbrev pub identified_root : Rule → ℕ → Visited → List Resource
 identified_root Narrow number root = []
-identified_root Standard number root = identified Standard number root
+identified_root Standard number root = identified Standard number root ++ written_root number root
 
 abbrev pub embedded : Rule → Draft → ℕ → Document → List Resource
 embedded rule draft number d = identified_root rule number (root_visited draft d)
@@ -158,7 +182,7 @@ embedded rule draft number d = identified_root rule number (root_visited draft d
 -- the resources that are whole documents, numbered from here on
 abbrev pub document_resources : Rule → Draft → ℕ → List Document → List Resource
 document_resources rule draft n [] = []
-document_resources rule draft n (d ∷ ds) = document_resource rule draft n d ∷ document_resources rule draft (n + 1) ds
+document_resources rule draft n (d ∷ ds) = whole_document rule draft n d ++ document_resources rule draft (n + 1) ds
 
 -- the resources that are embedded in documents, numbered from here on
 abbrev pub embedded_resources : Rule → Draft → ℕ → List Document → List Resource

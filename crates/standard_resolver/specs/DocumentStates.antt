@@ -8,6 +8,7 @@ use Rattle.theory_definitions.specs.Instance.{Place, Text}
 use Rattle.theory_definitions.specs.Drafts.{Draft, SchemaPlace, same_schema_place}
 use Rattle.standard_subschemas.specs.SubschemaRules.{identifier, root_place}
 use Rattle.standard_subschemas.specs.declared.rules.Rule.{Rule}
+use Rattle.standard_subschemas.specs.declared.rules.Rule.TheVariants.{Narrow, Standard}
 use Rattle.standard_resolver.specs.ResolverDocuments.{Document}
 use Rattle.standard_subschemas.specs.DocumentUris.{own_uri, root_base}
 use Rattle.standard_resolver.specs.DocumentResources.{Resource, Table, number_of, place_of_resource}
@@ -31,6 +32,13 @@ no_identified id = codes "this resolver finds no resource of its own for the ide
 abbrev pub uri_of_document : Rule → Draft → Data → Option Document → Option Text
 uri_of_document rule draft schema None = None
 uri_of_document rule draft schema (Some d) = Some (root_base rule d.uri draft schema)
+
+-- The state from which a pointer enters an inner resource. By the standard's rule it is the one
+-- before the pointer, since the outer resources that it passes through are not entered. By the narrow
+-- rule they are.
+abbrev pub state_outside : Rule → Point → Point → Point
+state_outside Narrow before s = s
+state_outside Standard before s = before
 
 module _ (table : Table) where
   -- the resource under a URI without a fragment
@@ -59,6 +67,12 @@ module _ (table : Table) where
   abbrev pub entered_below : Point → Draft → SchemaPlace → Data → Result Point Text
   entered_below s draft p schema = elim (identifier draft schema)
       [ None ↦ Ok s | Some id ↦ entered_by p id s (own_uri table.rule s.base id) ]
+
+  -- the state inside a schema to which a pointer passes; `before` is the state before the pointer, and
+  -- s the state in the resource around the schema
+  abbrev pub entered_inner : Point → Point → Draft → SchemaPlace → Data → Result Point Text
+  entered_inner before s draft p schema = elim (identifier draft schema)
+      [ None ↦ Ok s | Some id ↦ entered_by p id (state_outside table.rule before s) (own_uri table.rule s.base id) ]
 
   -- the state inside a document's root
   abbrev pub entered_root : List Document → Point → Draft → SchemaPlace → Data → Result Point Text

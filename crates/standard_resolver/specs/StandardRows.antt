@@ -1,8 +1,8 @@
 -- Worked rows of the standard's rule, by computation. The documents and the expected targets come
 -- from the official test suite's files on references and remote references (drafts 4, 6 and 7). The
--- rows on names and identifiers, and the last rows, come from the standard. (RFC 3986, section 5.2;
--- draft-07 Core, section 8.2; Core 2019-09, section 8.2; Core 2020-12, sections 8.2 and 10.3 and
--- appendix B)
+-- rows on names and identifiers, and the last rows, come from the standard. (RFC 3986, sections 5.2
+-- and 6.2.2; RFC 6901, section 3; draft-07 Core, section 8.2; Core 2019-09, section 8.2; Core
+-- 2020-12, sections 8.2 and 10.3 and appendix B)
 use Rattle.std.specs.List.{list_all}
 use Rattle.std.specs.Prelude.{Bool, Err, List, Ok, Result, Some, [], codes, false, is_some, map, not, true, ℕ, ◌++◌, ◌||◌, ◌≡◌, ◌∷◌}
 use Rattle.serde_json.specs.Data.{array, boolean, item, member, no_items, no_members, object, string}
@@ -16,7 +16,7 @@ use Rattle.standard_resolver.specs.ResolverAnswers.{entrance}
 use Rattle.standard_resolver.specs.ResolverDocuments.{Document, value_in}
 use Rattle.standard_resolver.specs.DocumentResources.{Table, table_for}
 use Rattle.standard_resolver.specs.DocumentStates.{Point, entered}
-use Rattle.standard_resolver.specs.DocumentLookups.{looked_up, no_name}
+use Rattle.standard_resolver.specs.DocumentLookups.{looked_up, no_name, nothing_there}
 use Rattle.standard_resolver.specs.DocumentRows.{alone, one, two, under}
 
 abbrev pub in_these : Text → List ℕ → Point
@@ -92,12 +92,45 @@ scopes = alone (two (codes "$id") (string (codes "http://localhost:1234/scope_ch
     (one (codes "baz") (two (codes "$id") (string (codes "folder/")) (codes "definitions")
     (one (codes "bar") (one (codes "items") (one (codes "$ref") (string (codes "folderInteger.json"))))))))
 
--- a pointer through a schema with an identifier changes the base
+-- a pointer through a schema with an identifier changes the base, and enters the inner resource alone
 abbrev pub PointerChangesTheBase : Type 0
 PointerChangesTheBase = leads draft_7 scopes (in_these (codes "http://localhost:1234/scope_change_defs2.json") (0 ∷ []))
     (codes "#/definitions/baz/definitions/bar") false
     ≡ found_in draft_7 0 (to_member (codes "definitions") ∷ to_member (codes "baz") ∷ to_member (codes "definitions")
-    ∷ to_member (codes "bar") ∷ []) (codes "http://localhost:1234/folder/") (0 ∷ 1 ∷ 2 ∷ [])
+    ∷ to_member (codes "bar") ∷ []) (codes "http://localhost:1234/folder/") (0 ∷ 2 ∷ [])
+
+-- the target and its state are the same by the inner resource's own URI
+abbrev pub InnerUriLeadsThere : Type 0
+InnerUriLeadsThere = leads draft_7 scopes (in_these (codes "http://localhost:1234/scope_change_defs2.json") (0 ∷ []))
+    (codes "folder/#/definitions/bar") false
+    ≡ found_in draft_7 0 (to_member (codes "definitions") ∷ to_member (codes "baz") ∷ to_member (codes "definitions")
+    ∷ to_member (codes "bar") ∷ []) (codes "http://localhost:1234/folder/") (0 ∷ 2 ∷ [])
+
+-- {"$id": "http://LocalHost:1234/Root", "items": {"$id": "HTTP://localhost:1234/item"}}
+abbrev pub cased : List Document
+cased = alone (two (codes "$id") (string (codes "http://LocalHost:1234/Root")) (codes "items")
+    (one (codes "$id") (string (codes "HTTP://localhost:1234/item"))))
+
+-- the case of schemes and hosts makes no difference
+abbrev pub CaseOfHosts : Type 0
+CaseOfHosts = leads draft_7 cased (in_these (codes "http://localhost:1234/Root") (0 ∷ [])) (codes "http://localHOST:1234/item") false
+    ≡ found_in draft_7 0 (to_member (codes "items") ∷ []) (codes "http://localhost:1234/item") (0 ∷ 3 ∷ [])
+
+-- the case of paths does
+abbrev pub CaseOfPaths : Type 0
+CaseOfPaths = leads draft_7 cased (in_these (codes "http://localhost:1234/Root") (0 ∷ [])) (codes "Item") false
+    ≡ Err (codes "this resolver has no resource under the URI http://localhost:1234/Item")
+
+-- a document that is supplied under http://LocalHost/ has an entrance there, and is found under
+-- http://localhost/
+abbrev pub SuppliedUriIsRead : Type 0
+SuppliedUriIsRead = entrance (table_in draft_7 (under (codes "http://LocalHost/") (boolean true))).resources (codes "http://LocalHost/")
+    ≡ Some (record { place = record { document = 0; path = [] }; state = in_these (codes "http://localhost/") (0 ∷ []) })
+
+abbrev pub SuppliedUriIsFound : Type 0
+SuppliedUriIsFound = leads draft_7 (under (codes "http://LocalHost/") (boolean true)) (in_these (codes "http://localhost/") (0 ∷ []))
+    (codes "HTTP://LOCALHOST/") false
+    ≡ found_in draft_7 0 [] (codes "http://localhost/") (0 ∷ 1 ∷ [])
 
 -- {"$id": "http://localhost:1234/tree", "definitions": {"node": {"$id":
 -- "http://localhost:1234/node", "properties": {"subtree": {"$ref": "tree"}}}}}
@@ -183,6 +216,19 @@ LocationIndependentNested = leads draft_7 independent (in_these (codes "http://l
     ≡ found_in draft_7 0 (to_member (codes "definitions") ∷ to_member (codes "A") ∷ to_member (codes "definitions") ∷ to_member (codes "B")
     ∷ []) (codes "http://localhost:1234/nested.json") (0 ∷ 2 ∷ [])
 
+-- a name in a fragment is percent-decoded, also that of an identifier
+abbrev pub NameIsDecoded : Type 0
+NameIsDecoded = leads draft_7 independent (in_these (codes "http://localhost:1234/root") (0 ∷ [])) (codes "#b%61r") false
+    ≡ found_in draft_7 0 (to_member (codes "definitions") ∷ to_member (codes "C") ∷ []) (codes "http://localhost:1234/root") (0 ∷ 1 ∷ [])
+
+-- {"definitions": {"A": {"$id": "#%62ar"}}}
+abbrev pub encoded_name : List Document
+encoded_name = alone (one (codes "definitions") (one (codes "A") (one (codes "$id") (string (codes "#%62ar")))))
+
+abbrev pub IdentifierIsDecoded : Type 0
+IdentifierIsDecoded = leads draft_7 encoded_name (in_these (codes "json-schema:///") (0 ∷ [])) (codes "#bar") false
+    ≡ found_in draft_7 0 (to_member (codes "definitions") ∷ to_member (codes "A") ∷ []) (codes "json-schema:///") (0 ∷ [])
+
 -- the fragment does not begin a resource
 abbrev pub FragmentOpensNoResource : Type 0
 FragmentOpensNoResource = leads draft_7 independent (in_these (codes "http://localhost:1234/root") (0 ∷ 1 ∷ []))
@@ -253,6 +299,19 @@ abbrev pub PointersLeadAnywhere : Type 0
 PointersLeadAnywhere = leads draft_7 enumerated (in_these (codes "json-schema:///") (0 ∷ [])) (codes "#/x") false
     ≡ found_in draft_7 0 (to_member (codes "x") ∷ []) (codes "json-schema:///") (0 ∷ [])
 
+-- {"definitions": {"a~2": true}}
+abbrev pub odd_member : List Document
+odd_member = alone (one (codes "definitions") (one (codes "a~2") (boolean true)))
+
+-- a text with `~2` is no pointer
+abbrev pub OddEscapeIsNone : Type 0
+OddEscapeIsNone = leads draft_7 odd_member (in_these (codes "json-schema:///") (0 ∷ [])) (codes "#/definitions/a~2") false
+    ≡ Err (nothing_there (codes "#/definitions/a~2"))
+
+abbrev pub EscapeIsOne : Type 0
+EscapeIsOne = leads draft_7 odd_member (in_these (codes "json-schema:///") (0 ∷ [])) (codes "#/definitions/a~02") false
+    ≡ found_in draft_7 0 (to_member (codes "definitions") ∷ to_member (codes "a~2") ∷ []) (codes "json-schema:///") (0 ∷ [])
+
 -- `items` may be a list in drafts 4 to 2019-09; the members of `dependencies` that are schemas
 -- count: {"dependencies": {"a": ["b"], "c": true}, "items": [true]}
 abbrev pub ListsOfItems : Type 0
@@ -310,6 +369,11 @@ pub record StandardRowsHold : Type 0 where
   pub fragment : EmptyFragment
   pub absent : AbsentIsRefused
   pub through : PointerChangesTheBase
+  pub inner : InnerUriLeadsThere
+  pub cased : CaseOfHosts
+  pub path_case : CaseOfPaths
+  pub supplied : SuppliedUriIsRead
+  pub supplied_found : SuppliedUriIsFound
   pub tree : TreeOfNodes
   pub node : NodeOfATree
   pub early : DraftFourHasId
@@ -318,6 +382,8 @@ pub record StandardRowsHold : Type 0 where
   pub sibling_base : SiblingKeepsTheBase
   pub independent : LocationIndependent
   pub independent_nested : LocationIndependentNested
+  pub decoded : NameIsDecoded
+  pub decoded_identifier : IdentifierIsDecoded
   pub no_resource : FragmentOpensNoResource
   pub late_fragment : LateFragmentIsNoName
   pub both : FragmentAndUri
@@ -328,6 +394,8 @@ pub record StandardRowsHold : Type 0 where
   pub enumerated : EnumHasNoSchemas
   pub unknown : UnknownHasNoSchemas
   pub pointer : PointersLeadAnywhere
+  pub odd_escape : OddEscapeIsNone
+  pub escape : EscapeIsOne
   pub lists : ListsOfItems
   pub one_schema : ItemsIsOneSchema
   pub no_if : DraftSixHasNoIf

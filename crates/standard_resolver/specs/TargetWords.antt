@@ -27,13 +27,13 @@ abbrev pub ShowsTargetIf : {E : Type 0} → Result (Option (Target DocumentState
 ShowsTargetIf result meant = Shows (option_map (found_of point_of)) result meant
 
 -- the target at the end of a path from the root of a resource
-abbrev pub arrived_from : Table → Text → Resource → Data → Point → Place → Result (Found Point) Text
-arrived_from table reference r root point path = arrived table reference r.document r.draft root [] root r.path point path
+abbrev pub arrived_from : Table → Text → Resource → Point → Data → Point → Place → Result (Found Point) Text
+arrived_from table reference r before root point path = arrived table reference r.document before r.draft root [] root r.path point path
 
 -- the target of a pointer into a resource of these documents
-abbrev pub target_pointed_at : List Document → Table → Text → Resource → Point → Text → Result (Found Point) Text
-target_pointed_at documents table reference r point pointer =
-    target_by_pointer table reference r point pointer (value_in documents (place_of_resource r))
+abbrev pub target_pointed_at : List Document → Table → Text → Resource → Point → Point → Text → Result (Found Point) Text
+target_pointed_at documents table reference r before point pointer =
+    target_by_pointer table reference r before point pointer (value_in documents (place_of_resource r))
 
 -- the first of these names that has this text
 abbrev pub first_named : Text → List Name → Option Name

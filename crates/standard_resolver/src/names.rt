@@ -1,16 +1,17 @@
 //! The names in a resource.
 //!
-//! A name is compared with the fragment of a reference as both are written; only pointers are
-//! decoded. An empty name is never looked up, since an empty fragment leads to the root. If the
+//! By the standard's rule a name in a fragment is decoded, that of a reference as well as that of an
+//! identifier. An empty name is never looked up, since an empty fragment leads to the root. If the
 //! `$anchor` and the `$dynamicAnchor` of a schema are the same text, the `$anchor` comes first.
-ghost use Rattle.std.specs.Prelude.{◌≡◌, map, option_map, OnOk};
+ghost use Rattle.std.specs.Prelude.{◌≡◌, map, option_map, string_bytes, OnOk};
 ghost use Rattle.std.specs.HashMap.{get_by_text};
 ghost use Rattle.standard_subschemas.specs.DocumentKeys.{IsNumbered};
 ghost use Rattle.standard_resolver.specs.DocumentResources.{dynamic_key, name_if, name_key, names_at, names_in};
 ghost use Rattle.standard_resolver.specs.DocumentNameViews.{name_of};
 ghost use Rattle.standard_resolver.specs.DocumentViews.{visited_of};
 ghost use Rattle.schema_traits.specs.Readings.{text_read};
-ghost use Rattle.schema_traits.specs.Showing.{Yields};
+ghost use Rattle.schema_traits.specs.Showing.{Shows, Yields};
+ghost use Rattle.standard_subschemas.specs.SubschemaRules.{dynamic_name};
 ghost use Rattle.standard_resolver.specs.DocumentShowing.{Appends};
 ghost use Rattle.standard_resolver.specs.TargetWords.{first_dynamic_named, first_named};
 
@@ -18,7 +19,7 @@ use crate::walk::{Visited, walked};
 use schema_drafts::Draft;
 use schema_reports::OutOfMemory;
 use schema_traits::SchemaPath;
-use standard_subschemas::{Rule, add_number, dynamic_name, plain_name};
+use standard_subschemas::{Rule, add_number, dynamic_name, schema_name};
 use std::alloc::Global;
 use std::collections::HashMap;
 use std::marker::Model;
@@ -82,19 +83,31 @@ impl Names {
     }
 }
 
-fn push_name(
+fn dynamic_name_of(
     alloc: Global,
+    rule: Rule,
     visited: &Visited<'_>,
-    name: Option<&str>,
+) -> Result<Option<String>, OutOfMemory>
+    ensures name { let v = visited_of visited.now in Shows (option_map string_bytes) result (dynamic_name rule v.draft v.schema) }
+{
+    match dynamic_name(rule, visited.draft, visited.schema) {
+        Some(name) => Ok(Some(String::from_str(alloc, name)?)),
+        None => Ok(None),
+    }
+}
+
+fn push_name(
+    visited: &Visited<'_>,
+    name: Option<String>,
     is_dynamic: bool,
     names: &mut Vec<Name>,
 ) -> Result<(), OutOfMemory>
-    ensures pushed { OnOk result (Appends name_of names.old.items names.new.items (name_if (text_read name.entry) is_dynamic (visited_of
+    ensures pushed { OnOk result (Appends name_of names.old.items names.new.items (name_if (option_map string_bytes name) is_dynamic (visited_of
         visited.now))) }
 {
     if let Some(name) = name {
         names.push(Name {
-            name: String::from_str(alloc, name)?,
+            name,
             path: visited.path.clone()?,
             draft: visited.draft,
             is_dynamic,
@@ -111,10 +124,10 @@ fn push_names(
 ) -> Result<(), OutOfMemory>
     ensures pushed { OnOk result (Appends name_of names.old.items names.new.items (names_at rule (visited_of visited.now))) }
 {
-    let plain = plain_name(rule, visited.draft, visited.schema);
-    push_name(alloc, visited, plain, false, names)?;
-    let dynamic = dynamic_name(rule, visited.draft, visited.schema);
-    push_name(alloc, visited, dynamic, true, names)
+    let name = schema_name(alloc, rule, visited.draft, visited.schema)?;
+    push_name(visited, name, false, names)?;
+    let dynamic = dynamic_name_of(alloc, rule, visited)?;
+    push_name(visited, dynamic, true, names)
 }
 
 fn dynamic_key(name: &Name) -> Option<&str>

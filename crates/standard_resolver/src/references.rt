@@ -6,27 +6,27 @@ ghost use Rattle.serde_json.specs.View.{view};
 ghost use Rattle.theory_definitions.specs.Parts.{Parts};
 ghost use Rattle.standard_subschemas.specs.Refusals.{RefusesWith};
 ghost use Rattle.standard_resolver.specs.DocumentLookups.{dynamic_in, first_dynamic, first_recursive, looked_up, looked_up_recursive};
-ghost use Rattle.standard_resolver.specs.DocumentLookups.{no_base, not_at_hand, nothing_there, recursive_in, target_by_fragment, target_by_name};
+ghost use Rattle.standard_resolver.specs.DocumentLookups.{no_base, not_at_hand, nothing_there, recursive_in, target_by_fragment, target_of_name};
 ghost use Rattle.standard_resolver.specs.DocumentLookups.{target_named, target_root};
 ghost use Rattle.standard_resolver.specs.ResolverStart.{NarrowBasesStand, StartsAtInnermost};
 ghost use Rattle.standard_resolver.specs.DocumentStates.{Point};
 ghost use Rattle.standard_resolver.specs.DocumentNameViews.{name_of};
 ghost use Rattle.standard_resolver.specs.DocumentResourceViews.{resource_of};
 ghost use Rattle.standard_resolver.specs.DocumentViews.{held, point_of};
-ghost use Rattle.standard_resolver.specs.TargetWords.{LeadsTo, ShowsTarget, ShowsTargetIf, arrived_from, first_named, target_pointed_at};
+ghost use Rattle.standard_resolver.specs.TargetWords.{LeadsTo, ShowsTarget, ShowsTargetIf, arrived_from, target_pointed_at};
 
 use crate::documents::Documents;
 use crate::names::Name;
 use crate::on_way::is_subschema;
 use crate::resolver::DocumentState;
 use crate::resources::{Resource, Resources};
-use crate::states::{enter, entered_below};
+use crate::states::{enter, entered_inner};
 use schema_reports::OutOfMemory;
 use schema_traits::{LookupError, SchemaPath, SchemaPlace, Target};
 use serde_json::Value;
 use standard_subschemas::{
-    Rule, decoded, detected, fragment_of, path_of_pointer, refusal, resolve_uri, value_below,
-    without_fragment,
+    Rule, decoded, detected, fragment_of, name_in_fragment, path_by_pointer, refusal, resolve_uri,
+    value_below, without_fragment,
 };
 use std::alloc::Global;
 
@@ -63,6 +63,7 @@ fn not_at_hand(alloc: Global, rule: Rule, reference: &str, uri: &str) -> LookupE
 /// Follows a path from a resource's root to a target.
 ///
 /// Each subschema on the path may enter a resource by its identifier, and may change the draft.
+/// `before` is the state before the reference, and `state` that in the resource.
 fn arrived(
     alloc: Global,
     resources: &Resources,
@@ -70,10 +71,11 @@ fn arrived(
     resource: &Resource,
     root: &Value,
     path: &SchemaPath,
+    before: &DocumentState,
     state: DocumentState,
 ) -> Result<Target<DocumentState>, LookupError>
-    ensures leads { LeadsTo result (arrived_from resources.now reference.now (resource_of resource.now) (view root.now) (point_of state)
-        path.now) }
+    ensures leads { LeadsTo result (arrived_from resources.now reference.now (resource_of resource.now) (point_of before.now) (view root.now)
+        (point_of state) path.now) }
 {
     let mut place = resource.place()?;
     let mut state = state;
@@ -90,7 +92,7 @@ fn arrived(
         reached = below;
         if is_subschema(resources.rule(), draft, &since, schema) {
             draft = detected(draft, below);
-            state = entered_below(alloc, resources, state, draft, &place, below)?;
+            state = entered_inner(alloc, resources, before, state, draft, &place, below)?;
             schema = below;
             since = SchemaPath::root(alloc);
         }
@@ -108,21 +110,24 @@ fn target_by_pointer(
     resources: &Resources,
     reference: &str,
     resource: &Resource,
+    before: &DocumentState,
     state: DocumentState,
     pointer: &str,
 ) -> Result<Target<DocumentState>, LookupError>
     ensures leads { LeadsTo result (target_pointed_at (held documents.now) resources.now reference.now (resource_of resource.now)
-        (point_of state) pointer.now) }
+        (point_of before.now) (point_of state) pointer.now) }
 {
     let place = resource.place()?;
     let Some(root) = documents.value_at(&place) else {
         return Err(nothing_there(alloc, reference));
     };
     let pointer = decoded(alloc, pointer)?;
-    let Some(path) = path_of_pointer(alloc, pointer.as_str(), root)? else {
+    let Some(path) = path_by_pointer(alloc, resources.rule(), pointer.as_str(), root)? else {
         return Err(nothing_there(alloc, reference));
     };
-    arrived(alloc, resources, reference, resource, root, &path, state)
+    arrived(
+        alloc, resources, reference, resource, root, &path, before, state,
+    )
 }
 
 fn target_named(
@@ -192,8 +197,8 @@ fn target_by_name(
     state: &DocumentState,
     text: &str,
 ) -> Result<Target<DocumentState>, LookupError>
-    ensures leads { let r = resource_of resource.now in LeadsTo result (target_by_name resources.now followed.entry.reference.now number
-        r (point_of state.now) followed.entry.dynamic text.now (first_named text.now r.names)) }
+    ensures leads { LeadsTo result (target_of_name resources.now followed.entry.reference.now number (resource_of resource.now)
+        (point_of state.now) followed.entry.dynamic text.now) }
 {
     let Some(name) = resource.names.find(text) else {
         let refused = "nothing has the name of the reference ";
@@ -245,11 +250,18 @@ fn target_by_fragment(
         let reference = followed.reference;
         let inside = enter(alloc, state, number, resource.base.as_str())?;
         return target_by_pointer(
-            alloc, documents, resources, reference, resource, inside, fragment,
+            alloc, documents, resources, reference, resource, state, inside, fragment,
         );
     }
+    let name = name_in_fragment(alloc, resources.rule(), fragment)?;
     target_by_name(
-        alloc, resources, followed, number, resource, state, fragment,
+        alloc,
+        resources,
+        followed,
+        number,
+        resource,
+        state,
+        name.as_str(),
     )
 }
 

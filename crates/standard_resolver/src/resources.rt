@@ -1,17 +1,19 @@
 //! The resources in documents.
 //!
 //! By the standard's rule a document is two resources with one root if the identifier of its root
-//! differs from the URI that the document is supplied under; both have the identifier's base. If
-//! several resources have one URI, the first is found. Entering a later one is refused, because the
-//! state holds only a URI as its base, which would mean the first.
+//! differs from the URI that the document is supplied under; both have the identifier's base. Each
+//! of the two URIs is taken in normal form, which every URI has that a reference means, and as it is
+//! written, since a build asks for it so. If several resources have one URI, the first is found.
+//! Entering a later one is refused, because the state holds only a URI as its base, which would mean
+//! the first.
 ghost use Rattle.std.specs.Prelude.{◌≡◌, ◌∷◌, [], flat_map, map, option_map, slice_get, string_bytes};
 ghost use Rattle.serde_json.specs.View.{view};
 ghost use Rattle.schema_drafts.specs.KeywordViews.{draft_of};
 ghost use Rattle.schema_traits.specs.ResolverViews.{place_of};
 ghost use Rattle.standard_resolver.specs.DocumentResources as spec;
-ghost use Rattle.standard_resolver.specs.DocumentResources.{document_resource, document_resources, embedded, embedded_resources};
+ghost use Rattle.standard_resolver.specs.DocumentResources.{base_in, document_resources, embedded, embedded_resources};
 ghost use Rattle.standard_resolver.specs.DocumentResources.{identified, identified_root, is_recursive, number_of, place_of_resource};
-ghost use Rattle.standard_resolver.specs.DocumentResources.{root_visited, table_for};
+ghost use Rattle.standard_resolver.specs.DocumentResources.{normal_resource, root_visited, table_for, whole_document, written_root};
 ghost use Rattle.standard_resolver.specs.DocumentStates.{number_at, resource_under};
 ghost use Rattle.standard_resolver.specs.ResourcesGathered.{Gathers};
 ghost use Rattle.standard_resolver.specs.DocumentResourceViews.{resource_of};
@@ -25,7 +27,10 @@ use schema_drafts::Draft;
 use schema_reports::OutOfMemory;
 use schema_traits::{SchemaPath, SchemaPlace};
 use serde_json::Value;
-use standard_subschemas::{Rule, add_number, detected, root_base, uri_of, without_fragment};
+use standard_subschemas::{
+    Rule, add_number, detected, identifier, normal_uri, own_uri, root_base, uri_of,
+    without_fragment, written_uri,
+};
 use std::alloc::Global;
 use std::collections::HashMap;
 use std::marker::Model;
@@ -214,6 +219,47 @@ fn add_identified(
     Ok(())
 }
 
+/// Adds the resource that begins with a schema under a URI, unless an earlier one has it.
+fn add_under(
+    alloc: Global,
+    rule: Rule,
+    uri: String,
+    base: String,
+    document: usize,
+    root: &Visited<'_>,
+    gathered: &mut Gathered,
+) -> Result<(), OutOfMemory>
+    ensures added { Gathers result gathered.old gathered.new (spec.resource_of rule (string_bytes uri) (string_bytes base) document
+        (visited_of root.now) ∷ []) }
+{
+    if gathered.numbers.get(uri.as_str()).is_some() {
+        return Ok(());
+    }
+    let resource = resource_of(alloc, rule, uri, base, document, root)?;
+    add_resource(alloc, gathered, resource)
+}
+
+/// Adds a document's root under its identifier in the case in which it is written.
+fn add_written_root(
+    alloc: Global,
+    document: usize,
+    root: &Visited<'_>,
+    gathered: &mut Gathered,
+) -> Result<(), OutOfMemory>
+    ensures added { Gathers result gathered.old gathered.new (written_root document (visited_of root.now)) }
+{
+    let Some(id) = identifier(root.draft, root.schema) else {
+        return Ok(());
+    };
+    let rule = Rule::Standard;
+    let around = root.base.as_str();
+    let uri = written_uri(alloc, around, id)?;
+    match own_uri(alloc, rule, around, id)? {
+        Some(base) => add_under(alloc, rule, uri, base, document, root, gathered),
+        None => Ok(()),
+    }
+}
+
 /// Adds a document's root under its identifier, by the standard's rule only.
 fn add_identified_root(
     alloc: Global,
@@ -226,7 +272,11 @@ fn add_identified_root(
 {
     match rule {
         Rule::Narrow => Ok(()),
-        Rule::Standard => add_identified(alloc, Rule::Standard, document, root, gathered),
+        Rule::Standard => {
+            add_identified(alloc, Rule::Standard, document, root, gathered)?;
+            add_written_root(alloc, document, root, gathered)?;
+            Ok(())
+        }
     }
 }
 
@@ -291,6 +341,49 @@ fn add_embedded(
     Ok(())
 }
 
+/// Adds a document that is supplied under a URI, to be found under `own`.
+fn add_document_as(
+    alloc: Global,
+    rule: Rule,
+    draft: Draft,
+    document: usize,
+    own: String,
+    uri: &str,
+    value: &Value,
+    gathered: &mut Gathered,
+) -> Result<(), OutOfMemory>
+    ensures added { let d = document_under uri.now value.now in Gathers result gathered.old gathered.new (spec.resource_of rule
+        (string_bytes own) (base_in rule (draft_of draft) d) document (root_visited (draft_of draft) d) ∷ []) }
+{
+    let root = root_visited(alloc, draft, uri, value)?;
+    let base = root_base(alloc, rule, uri, root.draft, value)?;
+    add_under(alloc, rule, own, base, document, &root, gathered)?;
+    Ok(())
+}
+
+/// Adds a document under its URI in normal form, by the standard's rule only.
+fn add_normal(
+    alloc: Global,
+    rule: Rule,
+    draft: Draft,
+    document: usize,
+    uri: &str,
+    value: &Value,
+    gathered: &mut Gathered,
+) -> Result<(), OutOfMemory>
+    ensures added { Gathers result gathered.old gathered.new (normal_resource rule (draft_of draft) document (document_under uri.now
+        value.now)) }
+{
+    match rule {
+        Rule::Narrow => Ok(()),
+        Rule::Standard => {
+            let own = normal_uri(alloc, without_fragment(uri))?;
+            let rule = Rule::Standard;
+            add_document_as(alloc, rule, draft, document, own, uri, value, gathered)
+        }
+    }
+}
+
 fn add_document(
     alloc: Global,
     rule: Rule,
@@ -300,14 +393,12 @@ fn add_document(
     value: &Value,
     gathered: &mut Gathered,
 ) -> Result<(), OutOfMemory>
-    ensures added { Gathers result gathered.old gathered.new (document_resource rule (draft_of draft) document (document_under uri.now
-        value.now) ∷ []) }
+    ensures added { Gathers result gathered.old gathered.new (whole_document rule (draft_of draft) document (document_under uri.now
+        value.now)) }
 {
-    let root = root_visited(alloc, draft, uri, value)?;
     let own = String::from_str(alloc, without_fragment(uri))?;
-    let base = root_base(alloc, rule, uri, root.draft, value)?;
-    let resource = resource_of(alloc, rule, own, base, document, &root)?;
-    add_resource(alloc, gathered, resource)?;
+    add_document_as(alloc, rule, draft, document, own, uri, value, gathered)?;
+    add_normal(alloc, rule, draft, document, uri, value, gathered)?;
     Ok(())
 }
 

@@ -5,7 +5,8 @@ ghost use Rattle.serde_json.specs.View.{view};
 ghost use Rattle.schema_drafts.specs.KeywordViews.{draft_of};
 ghost use Rattle.schema_traits.specs.ResolverViews.{place_of};
 ghost use Rattle.standard_subschemas.specs.Refusals.{RefusesWith};
-ghost use Rattle.standard_resolver.specs.DocumentStates.{enter, entered, entered_below, entered_by, entered_root, no_identified};
+ghost use Rattle.standard_resolver.specs.DocumentStates.{enter, entered, entered_below, entered_by, entered_inner, entered_root};
+ghost use Rattle.standard_resolver.specs.DocumentStates.{no_identified};
 ghost use Rattle.standard_resolver.specs.DocumentStates.{uri_of_document};
 ghost use Rattle.standard_resolver.specs.DocumentViews.{held, point_of};
 ghost use Rattle.schema_traits.specs.Readings.{value_read};
@@ -114,6 +115,38 @@ pub fn entered_below(
             entered_by(alloc, resources, place, id, &state, uri)
         }
         None => Ok(state),
+    }
+}
+
+/// Returns the state inside a schema to which a pointer passes.
+///
+/// `before` is the state before the pointer, and `state` that in the resource around the schema. By
+/// the standard's rule the pointer enters the innermost resource alone.
+///
+/// # Errors
+///
+/// Out of memory, or the schema has an identifier, but no resource with its URI begins at the
+/// place.
+pub fn entered_inner(
+    alloc: Global,
+    resources: &Resources,
+    before: &DocumentState,
+    state: DocumentState,
+    draft: Draft,
+    place: &SchemaPlace,
+    schema: &Value,
+) -> Result<DocumentState, LookupError>
+    ensures entered { Agrees point_of result (entered_inner resources.now (point_of before.now) (point_of state) (draft_of draft)
+        (place_of place.now) (view schema.now)) }
+{
+    let Some(id) = identifier(draft, schema) else {
+        return Ok(state);
+    };
+    let rule = resources.rule();
+    let uri = own_uri(alloc, rule, state.base.as_str(), id)?;
+    match rule {
+        Rule::Narrow => entered_by(alloc, resources, place, id, &state, uri),
+        Rule::Standard => entered_by(alloc, resources, place, id, before, uri),
     }
 }
 

@@ -7,7 +7,7 @@ use Rattle.standard_resolver.specs.ResolverDocuments.{Document, document_of}
 use Rattle.standard_resolver.specs.DocumentResources.{embedded}
 use Rattle.standard_resolver.specs.ResourcesGathered.{Adds}
 use Rattle.standard_resolver.specs.DocumentViews.{given_of}
-use Rattle.standard_resolver.proofs.ResourceLists.{all_embedded, next_embedded, only_embedded}
+use Rattle.standard_resolver.proofs.ResourceLists.{all_embedded, next_embedded, only_first}
 use Rattle.standard_resolver.proofs.resources.add_all_embedded.Goals as goal
 
 pub loop-i-init : goal.loop-i-init
@@ -16,7 +16,7 @@ loop-i-init c =
     let first : Document = record { uri = string_bytes documents.uri; value = view documents.root.now } in
     let added = subst (λ (t : Text). Adds (embedded c.args.rule (draft_of c.args.draft) 0 (record { uri = t; value = first.value }))
     c.args.gathered.now c.add_embedded.new.gathered) c.as_str-uri.ensures.value c.in_ok-add_embedded.ensures.added in
-    only_embedded (embedded c.args.rule (draft_of c.args.draft) 0 first) c.args.gathered.now c.add_embedded.new.gathered added
+    only_first (embedded c.args.rule (draft_of c.args.draft) 0 first) c.args.gathered.now c.add_embedded.new.gathered added
 
 pub loop-i-preserved : goal.loop-i-preserved
 loop-i-preserved c =

@@ -4,11 +4,19 @@ use Rattle.theory_definitions.specs.Instance.{Text}
 use Rattle.schema_drafts.specs.KeywordViews.{draft_of}
 use Rattle.standard_resolver.specs.declared.documents as code
 use Rattle.standard_resolver.specs.ResolverDocuments.{Document, document_of}
-use Rattle.standard_resolver.specs.DocumentResources.{document_resource}
+use Rattle.standard_resolver.specs.DocumentResources.{whole_document}
 use Rattle.standard_resolver.specs.ResourcesGathered.{Adds}
 use Rattle.standard_resolver.specs.DocumentViews.{given_of}
-use Rattle.standard_resolver.proofs.ResourceLists.{all_documents, next_document}
+use Rattle.standard_resolver.proofs.ResourceLists.{all_documents, next_document, only_first}
 use Rattle.standard_resolver.proofs.resources.add_documents.Goals as goal
+
+pub loop-i-init : goal.loop-i-init
+loop-i-init c =
+    let documents = c.args.documents.now in
+    let first : Document = record { uri = string_bytes documents.uri; value = view documents.root.now } in
+    let added = subst (λ (t : Text). Adds (whole_document c.args.rule (draft_of c.args.draft) 0 (record { uri = t; value = first.value }))
+    c.args.gathered.now c.add_document.new.gathered) c.as_str-uri.ensures.value c.in_ok-add_document.ensures.added in
+    only_first (whole_document c.args.rule (draft_of c.args.draft) 0 first) c.args.gathered.now c.add_document.new.gathered added
 
 pub loop-i-preserved : goal.loop-i-preserved
 loop-i-preserved c =
@@ -24,8 +32,7 @@ loop-i-preserved c =
     let at : other ≡ get_or items i other = c.other-item.is ∙ ap (λ (xs : List code.Document.Document). get_or xs i other) same in
     let uri = c.as_str-uri-in-loop-i.ensures.value in
     let added = subst (λ (t : Text). Adds
-    (document_resource rule draft (i + 1) (record { uri = t; value = (document_of (given_of other)).value })
-    ∷ []) c.loop-i.gathered c.add_document-in-loop-i.new.gathered) uri c.in_ok-add_document-2.ensures.added in
+    (whole_document rule draft (i + 1) (record { uri = t; value = (document_of (given_of other)).value })) c.loop-i.gathered c.add_document-in-loop-i.new.gathered) uri c.in_ok-add_document-2.ensures.added in
     next_document rule draft first given_of document_of items i c.args.gathered.now c.loop-i.gathered c.add_document-in-loop-i.new.gathered
     other within at c.loop-i.invariant added
 
