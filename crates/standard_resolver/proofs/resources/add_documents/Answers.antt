@@ -1,4 +1,4 @@
-use Rattle.std.proofs.Common.{List, ap, arith, get_or, length, string_bytes, subst, ◌+◌, ◌<◌, ◌≡◌, ◌≤◌, ◌∙◌, ◌∷◌, []}
+use Rattle.std.proofs.Common.{List, ap, arith, get_or, length, string_bytes, subst, ◌+◌, ◌<◌, ◌≡◌, ◌≤◌, ◌∙◌}
 use Rattle.serde_json.specs.View.{view}
 use Rattle.theory_definitions.specs.Instance.{Text}
 use Rattle.schema_drafts.specs.KeywordViews.{draft_of}
