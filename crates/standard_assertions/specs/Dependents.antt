@@ -2,8 +2,9 @@
 -- has a member with the name of such a list, then it must also have the members that the list
 -- names; each one that it lacks is an error. An instance that is no object is accepted. (Validation
 -- 2020-12, 6.5.4)
-use Rattle.std.specs.Prelude.{List, None, Option, Some, String, [], if◌then◌else◌, map, string_bytes, ◌++◌, ◌∷◌, ◌≡◌}
+use Rattle.std.specs.Prelude.{List, None, OnOk, Option, Result, Some, String, [], if◌then◌else◌, map, string_bytes, ◌++◌, ◌∷◌, ◌≡◌}
 use Rattle.std.specs.declared.alloc.Global.{Global}
+use Rattle.std.specs.declared.vec.Vec.{Vec}
 use Rattle.serde_json.specs.Data.{Data, Items, Members, item, member, no_items, no_members}
 use Rattle.serde_json.specs.Find.{as_array, as_object, as_str}
 use Rattle.theory_definitions.specs.Instance.{Subject, Text}
@@ -41,6 +42,6 @@ wanted_of (Some ms) s = wanted_by_each ms s
 abbrev pub missing_dependents : Data → Subject → List Text
 missing_dependents dependents s = wanted_of (as_object dependents) s
 
--- An error's text is appended for each of these names.
-abbrev pub AddsRequired : List Text → List (String Global) → List (String Global) → Type 0
-AddsRequired names old new = map string_bytes new ≡ map string_bytes old ++ map required_text names
+-- If the result is `Ok`, an error's text was appended for each of these names.
+abbrev pub AddsRequired : {A E : Type 0} → List Text → Vec (String Global) Global → Vec (String Global) Global → Result A E → Type 0
+AddsRequired names old new result = OnOk result (map string_bytes new.items ≡ map string_bytes old.items ++ map required_text names)

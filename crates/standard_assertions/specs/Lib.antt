@@ -4,9 +4,11 @@ pub mod Dependents
 pub mod Limits
 pub mod Made
 pub mod MadeLaws
+pub mod MakerWords
 pub mod Multiples
 pub mod NumberCoding
 pub mod Shapes
+pub mod ShownTexts
 pub mod Sizes
 pub mod Types
 pub mod Values

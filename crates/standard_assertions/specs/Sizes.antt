@@ -1,10 +1,10 @@
 -- A limit of sizes: of the items of a list, or of the members of an object. An instance that is
 -- neither is accepted. (Validation 2020-12, 6.4.1, 6.4.2 and 6.5.1)
-use Rattle.std.specs.Prelude.{Bool, None, Option, Some, codes, decimal, if◌then◌else◌, nat_le, option_map, true, ℕ, ◌++◌, ◌==◌}
+use Rattle.std.specs.Prelude.{Bool, None, Option, Some, codes, decimal, if◌then◌else◌, nat_le, true, ℕ, ◌++◌, ◌==◌}
 use Rattle.theory_definitions.specs.Instance.{Subject, Text}
 use Rattle.theory_definitions.specs.Meaning.{subject_text}
 use Rattle.keyword_authoring.specs.Items.{is_list, item_count}
-use Rattle.standard_basics.specs.Counts.{member_count, subject_members}
+use Rattle.standard_basics.specs.Counts.{members_count}
 use Rattle.standard_assertions.specs.declared.sizes.SizeKind.{SizeKind}
 use Rattle.standard_assertions.specs.declared.sizes.SizeKind.TheVariants as kind
 
@@ -13,11 +13,15 @@ size_name kind.MinItems = codes "minItems"
 size_name kind.MaxItems = codes "maxItems"
 size_name kind.MaxProperties = codes "maxProperties"
 
+-- the number of items, if the subject is a list
+abbrev pub items_count : Subject → Option ℕ
+items_count s = if is_list s then Some (item_count s) else None
+
 -- the number of items or members, if the keyword counts them
 abbrev pub size_of : SizeKind → Subject → Option ℕ
-size_of kind.MinItems s = if is_list s then Some (item_count s) else None
-size_of kind.MaxItems s = if is_list s then Some (item_count s) else None
-size_of kind.MaxProperties s = option_map member_count (subject_members s)
+size_of kind.MinItems s = items_count s
+size_of kind.MaxItems s = items_count s
+size_of kind.MaxProperties s = members_count s
 
 abbrev pub allows : SizeKind → ℕ → ℕ → Bool
 allows kind.MinItems limit size = nat_le limit size
@@ -46,5 +50,9 @@ many_counted kind.MinItems = codes " items"
 many_counted kind.MaxItems = codes " items"
 many_counted kind.MaxProperties = codes " properties"
 
+-- the words after the limit
+abbrev pub counted : SizeKind → ℕ → Text
+counted kind n = if n == 1 then one_counted kind else many_counted kind
+
 abbrev pub size_text : SizeKind → ℕ → Subject → Text
-size_text kind limit s = subject_text s ++ size_words kind ++ decimal limit ++ (if limit == 1 then one_counted kind else many_counted kind)
+size_text kind limit s = subject_text s ++ size_words kind ++ decimal limit ++ counted kind limit

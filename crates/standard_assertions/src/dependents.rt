@@ -1,5 +1,5 @@
 //! `dependentRequired` (JSON Schema Validation 2020-12, 6.5.4).
-ghost use Rattle.std.specs.Prelude.{◌≡◌, IfOk, map};
+ghost use Rattle.std.specs.Prelude.{◌≡◌, map};
 ghost use Rattle.serde_json.specs.Find.{as_array};
 ghost use Rattle.serde_json.specs.View.{items_view, view};
 ghost use Rattle.schema_reports.specs.InstanceViews.{subject_of};
@@ -72,8 +72,7 @@ fn push_missing(
     instance: Instance<'_>,
     texts: &mut Vec<String>,
 ) -> Result<(), OutOfMemory>
-    ensures pushed { IfOk result (λ _. AddsRequired (missing_names (items_view names.now) (subject_of instance.entry)) texts.old.items
-        texts.new.items) }
+    ensures pushed { AddsRequired (missing_names (items_view names.now) (subject_of instance.entry)) texts.old texts.new result }
 {
     for name in names {
         if let Some(name) = name.as_str() {
@@ -92,8 +91,7 @@ fn push_missing_of(
     instance: Instance<'_>,
     texts: &mut Vec<String>,
 ) -> Result<(), OutOfMemory>
-    ensures pushed { IfOk result (λ _. AddsRequired (missing_of (as_array (view names.now)) (subject_of instance.entry)) texts.old.items
-        texts.new.items) }
+    ensures pushed { AddsRequired (missing_of (as_array (view names.now)) (subject_of instance.entry)) texts.old texts.new result }
 {
     match names.as_array() {
         Some(names) => push_missing(alloc, names.as_slice(), instance, texts),
@@ -108,8 +106,7 @@ fn push_wanted(
     instance: Instance<'_>,
     texts: &mut Vec<String>,
 ) -> Result<(), OutOfMemory>
-    ensures pushed { IfOk result (λ _. AddsRequired (wanted_by_each (fields dependents.now) (subject_of instance.entry)) texts.old.items
-        texts.new.items) }
+    ensures pushed { AddsRequired (wanted_by_each (fields dependents.now) (subject_of instance.entry)) texts.old texts.new result }
 {
     for (name, wanted) in dependents.iter() {
         if has_member(instance, name.as_str()) {

@@ -1,12 +1,12 @@
 //! The limits of numbers (JSON Schema Validation 2020-12, 6.2.2 to 6.2.5).
 //!
 //! They are `minimum`, `maximum`, `exclusiveMinimum` and `exclusiveMaximum`.
-ghost use Rattle.std.specs.Prelude.{◌≡◌, IfOk, false};
+ghost use Rattle.std.specs.Prelude.{◌≡◌};
 ghost use Rattle.serde_json.specs.Find.{is_float};
 ghost use Rattle.serde_json.specs.View.{number_view};
 ghost use Rattle.schema_reports.specs.InstanceViews.{subject_of};
 ghost use Rattle.standard_assertions.specs.Limits.{is_within, keeps_limit, limit_name, limit_text, limit_words};
-ghost use Rattle.keyword_authoring.specs.TextWords.{ShowsText};
+ghost use Rattle.standard_assertions.specs.ShownTexts.{ShowsUnless};
 
 use crate::numbers::HeldNumber;
 use json_values::{is_at_most, is_less};
@@ -93,7 +93,7 @@ pub fn limit_text(
     limit: &HeldNumber,
     instance: Instance<'_>,
 ) -> Result<String, OutOfMemory>
-    ensures text { IfOk result (λ text. is_float limit.now ≡ false → ShowsText instance.entry (limit_text kind limit.now) text) }
+    ensures text { ShowsUnless (is_float limit.now) instance.entry (limit_text kind limit.now) result }
 {
     let mut text = instance.text(alloc)?;
     text.push_str(kind.words())?;

@@ -1,9 +1,9 @@
 //! `multipleOf` (JSON Schema Validation 2020-12, 6.2.1).
-ghost use Rattle.std.specs.Prelude.{◌≡◌, IfOk, false};
+ghost use Rattle.std.specs.Prelude.{◌≡◌};
 ghost use Rattle.serde_json.specs.Find.{is_float};
 ghost use Rattle.schema_reports.specs.InstanceViews.{subject_of};
 ghost use Rattle.standard_assertions.specs.Multiples.{is_multiple, multiple_text};
-ghost use Rattle.keyword_authoring.specs.TextWords.{ShowsText};
+ghost use Rattle.standard_assertions.specs.ShownTexts.{ShowsUnless};
 
 use crate::numbers::HeldNumber;
 use json_decimals::is_multiple_of;
@@ -36,7 +36,7 @@ pub fn multiple_text(
     divisor: &HeldNumber,
     instance: Instance<'_>,
 ) -> Result<String, OutOfMemory>
-    ensures text { IfOk result (λ text. is_float divisor.now ≡ false → ShowsText instance.entry (multiple_text divisor.now) text) }
+    ensures text { ShowsUnless (is_float divisor.now) instance.entry (multiple_text divisor.now) result }
 {
     let mut text = instance.text(alloc)?;
     text.push_str(" is not a multiple of ")?;

@@ -1,10 +1,9 @@
 //! The keywords `minItems`, `maxItems` and `maxProperties`.
 //!
 //! (JSON Schema Validation 2020-12, 6.4.1, 6.4.2 and 6.5.1)
-ghost use Rattle.std.specs.Prelude.{◌≡◌, ◌==◌, IfOk, None, Some, if◌then◌else◌};
+ghost use Rattle.std.specs.Prelude.{◌≡◌, IfOk};
 ghost use Rattle.schema_reports.specs.InstanceViews.{subject_of};
-ghost use Rattle.keyword_authoring.specs.Items.{is_list, item_count};
-ghost use Rattle.standard_assertions.specs.Sizes.{allows, many_counted, one_counted, size_fits, size_name, size_of, size_text, size_words};
+ghost use Rattle.standard_assertions.specs.Sizes.{allows, counted, items_count, size_fits, size_name, size_of, size_text, size_words};
 ghost use Rattle.keyword_authoring.specs.TextWords.{ShowsText};
 
 use keyword_authoring::{is_list, item_count};
@@ -45,7 +44,7 @@ impl SizeKind {
 
     /// Returns the words after the limit.
     fn counted(self, limit: u64) -> &'static str
-        ensures counted { result.now ≡ (if limit == 1 then one_counted self else many_counted self) }
+        ensures counted { result.now ≡ counted self limit }
     {
         if limit == 1 {
             match self {
@@ -86,7 +85,7 @@ impl SizeKind {
 
 /// Returns the number of items if the instance is a list.
 fn items_count(instance: Instance<'_>) -> Option<usize>
-    ensures count { result ≡ (if is_list (subject_of instance.entry) then Some (item_count (subject_of instance.entry)) else None) }
+    ensures count { result ≡ items_count (subject_of instance.entry) }
 {
     if is_list(instance) {
         Some(item_count(instance))

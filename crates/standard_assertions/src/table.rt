@@ -1,12 +1,12 @@
 //! The table that makes the assertions.
-ghost use Rattle.std.specs.Prelude.{◌≡◌, IfOk};
+ghost use Rattle.std.specs.Prelude.{◌≡◌};
 ghost use Rattle.serde_json.specs.Find.{as_bool, get_member};
 ghost use Rattle.serde_json.specs.View.{view};
-ghost use Rattle.schema_drafts.specs.KeywordViews.{builtin_text, draft_of};
-ghost use Rattle.keyword_makers.specs.ByObject.{formed, script_found};
-ghost use Rattle.keyword_makers.specs.MakerViews.{Begins};
+ghost use Rattle.schema_drafts.specs.KeywordViews.{draft_of};
+ghost use Rattle.keyword_makers.specs.ByObject.{formed};
 ghost use Rattle.schema_traits.specs.Showing.{Shows};
-ghost use Rattle.standard_assertions.specs.Made.{excludes, here_if, limit_here, made, unique_made};
+ghost use Rattle.standard_assertions.specs.Made.{excludes, here_if, limit_here, unique_made};
+ghost use Rattle.standard_assertions.specs.MakerWords.{FollowsMember, made_of_value};
 ghost use Rattle.standard_assertions.specs.Shapes.{shape_of};
 ghost use Rattle.schema_traits.specs.Readings.{fields};
 
@@ -98,7 +98,7 @@ fn keyword_made(
     object: &Map<String, Value>,
     draft: Draft,
 ) -> Result<Made, OutOfMemory>
-    ensures made { Shows (formed shape_of) result (made (draft_of draft) (fields object.now) (builtin_text keyword) (view value.now)) }
+    ensures made { Shows (formed shape_of) result (made_of_value draft object.now keyword value.now) }
 {
     match keyword {
         BuiltinKeyword::TypeKeyword => Ok(here_if(type_made(alloc, integers_of(draft), value)?)),
@@ -188,8 +188,7 @@ fn member_maker(
     object: &Map<String, Value>,
     draft: Draft,
 ) -> Result<Maker, OutOfMemory>
-    ensures maker { IfOk result (Begins shape_of (script_found made (draft_of draft) (fields object.now) (builtin_text keyword)
-        (get_member (builtin_text keyword) (fields object.now)))) }
+    ensures maker { FollowsMember result draft object.now keyword }
 {
     let name = keyword.as_str();
     match value_in(object, name) {

@@ -7,6 +7,7 @@
 -- 2020-12, sections 7.2 and 7.3; draft 7, sections 7.3, 8.3 and 8.4; draft 6, section 8.3; draft 4,
 -- section 7.3)
 use Rattle.std.specs.Prelude.{Bool, List, None, Option, Some, [], bytes_eq, codes, false, if◌then◌else◌, nat_le, true, ◌&&◌, ◌≡◌, ℕ}
+use Rattle.std.specs.Str.{str_eq_ignore_ascii_case}
 use Rattle.serde_json.specs.Data.{Data, Members}
 use Rattle.serde_json.specs.Find.{as_str, get_member}
 use Rattle.theory_definitions.specs.Drafts.{Draft, Vocabularies, draft_2019_09, draft_2020_12, draft_4, draft_6, draft_7, draft_unknown}
@@ -86,10 +87,15 @@ asserts_contents draft_2019_09 = false
 asserts_contents draft_2020_12 = false
 asserts_contents draft_unknown = false
 
+-- the name of base64, in letters of either case: the names of encodings have none (RFC 2045,
+-- section 6.1, which draft 7, section 8.3, cites)
+abbrev pub is_base64_name : Text → Bool
+is_base64_name t = str_eq_ignore_ascii_case t (codes "base64")
+
 -- JSON in the encoding beside it
 abbrev pub json_in : Option Text → MadeHere FormatKeyword
 json_in None = here.MalformedBeside (codes "contentEncoding")
-json_in (Some encoding) = if bytes_eq encoding (codes "base64") then here.Keyword JsonInBase64 children.Childless else here.Nothing
+json_in (Some encoding) = if is_base64_name encoding then here.Keyword JsonInBase64 children.Childless else here.Nothing
 
 abbrev pub json_beside : Option Data → MadeHere FormatKeyword
 json_beside None = here.Keyword Json children.Childless
@@ -101,7 +107,7 @@ media_type_made beside (Some t) = if bytes_eq t (codes "application/json") then 
 
 abbrev pub encoding_made : Option Text → MadeHere FormatKeyword
 encoding_made None = here.Malformed
-encoding_made (Some t) = if bytes_eq t (codes "base64") then here.Keyword Base64 children.Childless else here.Nothing
+encoding_made (Some t) = if is_base64_name t then here.Keyword Base64 children.Childless else here.Nothing
 
 abbrev pub is_json_name : Option Text → Bool
 is_json_name None = false

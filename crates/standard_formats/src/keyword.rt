@@ -25,11 +25,11 @@ pub enum FormatKeyword {
     Regex,
     /// `format` with the name `idn-hostname`: an internationalized host name.
     IdnHostname,
-    /// `contentEncoding` with the value `base64`.
+    /// `contentEncoding` with the name of base64.
     Base64,
     /// `contentMediaType` with the value `application/json`.
     Json,
-    /// The same, beside `contentEncoding` with the value `base64`.
+    /// The same, beside `contentEncoding` with the name of base64.
     JsonInBase64,
 }
 

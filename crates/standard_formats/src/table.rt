@@ -5,7 +5,7 @@ ghost use Rattle.serde_json.specs.View.{view};
 ghost use Rattle.schema_drafts.specs.KeywordViews.{builtin_text, draft_of};
 ghost use Rattle.keyword_makers.specs.ByObject.{formed};
 ghost use Rattle.standard_formats.specs.FormatMaking.{asserts_contents, contents_made, encoding_beside, encoding_made, format_made};
-ghost use Rattle.standard_formats.specs.FormatMaking.{idn_hostname_in, is_json_name, is_json_type, json_beside, json_in, keyword_if, keyword_named, known};
+ghost use Rattle.standard_formats.specs.FormatMaking.{idn_hostname_in, is_base64_name, is_json_name, is_json_type, json_beside, json_in, keyword_if, keyword_named, known};
 ghost use Rattle.standard_formats.specs.FormatMaking.{made, media_type_made, order, since};
 ghost use Rattle.standard_formats.specs.Shapes.{shape_of};
 ghost use Rattle.schema_traits.specs.Readings.{fields, text_read};
@@ -127,6 +127,13 @@ fn asserts_contents(draft: Draft) -> bool
     matches!(draft, Draft::Draft7)
 }
 
+/// Returns whether an encoding's name is that of base64, in letters of either case.
+fn is_base64_name(name: &str) -> bool
+    ensures base64 { result ≡ is_base64_name name.now }
+{
+    name.eq_ignore_ascii_case("base64")
+}
+
 /// Makes the assertion that a text is JSON in an encoding.
 fn json_in(encoding: Option<&str>) -> Made
     ensures made { formed shape_of result ≡ json_in (text_read encoding.entry) }
@@ -134,7 +141,7 @@ fn json_in(encoding: Option<&str>) -> Made
     match encoding {
         None => ObjectKeyword::MalformedBeside("contentEncoding"),
         Some(encoding) => {
-            if encoding == "base64" {
+            if is_base64_name(encoding) {
                 keyword_if(Some(FormatKeyword::JsonInBase64))
             } else {
                 ObjectKeyword::Nothing
@@ -195,7 +202,7 @@ fn encoding_made(value: &Value) -> Made
     match value.as_str() {
         None => ObjectKeyword::Malformed,
         Some(name) => {
-            if name == "base64" {
+            if is_base64_name(name) {
                 keyword_if(Some(FormatKeyword::Base64))
             } else {
                 ObjectKeyword::Nothing
