@@ -12,7 +12,8 @@ use Rattle.theory_definitions.specs.Drafts.{Draft}
 use Rattle.theory_definitions.specs.Resolving.{Found}
 use Rattle.standard_subschemas.specs.declared.rules.Rule.{Rule}
 use Rattle.standard_subschemas.specs.declared.rules.Rule.TheVariants.{Narrow, Standard}
-use Rattle.standard_subschemas.specs.SubschemaRules.{data_of, detected, fragment_of, subschemas, without_fragment}
+use Rattle.standard_subschemas.specs.SubschemaRules.{data_of, fragment_of, subschemas, without_fragment}
+use Rattle.standard_resolver.specs.Dialects.{detected, is_refused, text_or_none, unknown_meta}
 use Rattle.standard_resolver.specs.ResolverDocuments.{Document, value_in}
 use Rattle.standard_subschemas.specs.DocumentPointers.{path_of_pointer}
 use Rattle.standard_subschemas.specs.DocumentUris.{resolve_uri}
@@ -56,14 +57,14 @@ module _ (table : Table) where
   -- each subschema with an identifier is entered.
   abbrev pub arrived : Text → ℕ → Draft → Data → Place → Data → Place → Point → Place → Result (Found Point) Text
   arrived reference document draft schema since reached gone s [] =
-      Ok (record { place = record { document = document; path = gone }; state = s; draft = detected draft reached })
+      Ok (record { place = record { document = document; path = gone }; state = s; draft = detected table.reading draft reached })
   arrived reference document draft schema since reached gone s (step ∷ path) = elim (data_of (after_step step (a_value reached))) [
     | None ↦ Err (nothing_there reference)
-    | Some below ↦ elim (is_subschema table.rule draft (since ++ step ∷ []) schema) [
+    | Some below ↦ elim (is_subschema table.reading.rule draft (since ++ step ∷ []) schema) [
       | false ↦ arrived reference document draft schema (since ++ step ∷ []) below (gone ++ step ∷ []) s path
-      | true ↦ elim (entered_below table s (detected draft below) (record { document = document; path = gone ++ step ∷ [] }) below) [
+      | true ↦ elim (entered_below table s (detected table.reading draft below) (record { document = document; path = gone ++ step ∷ [] }) below) [
         | Err text ↦ Err text
-        | Ok inside ↦ arrived reference document (detected draft below) below [] below (gone ++ step ∷ []) inside path
+        | Ok inside ↦ arrived reference document (detected table.reading draft below) below [] below (gone ++ step ∷ []) inside path
       ]
     ]
   ]
@@ -114,11 +115,13 @@ module _ (table : Table) where
       else target_by_name reference n r s dynamic (x ∷ xs) (option_and_then (slice_get r.names) (name_number (x ∷ xs) r.names))
 
   abbrev pub target_in : List Document → Text → Text → Point → Bool → Text → ℕ → Option Resource → Result (Found Point) Text
-  target_in documents reference uri s dynamic fragment n None = Err (not_at_hand table.rule reference uri)
-  target_in documents reference uri s dynamic fragment n (Some r) = target_by_fragment documents reference n r s dynamic fragment
+  target_in documents reference uri s dynamic fragment n None = Err (not_at_hand table.reading.rule reference uri)
+  target_in documents reference uri s dynamic fragment n (Some r) =
+      if is_refused table.reading.rule r.draft then Err (unknown_meta (text_or_none r.named))
+      else target_by_fragment documents reference n r s dynamic fragment
 
   abbrev pub target_under : List Document → Text → Text → Point → Bool → Text → Option ℕ → Result (Found Point) Text
-  target_under documents reference uri s dynamic fragment None = Err (not_at_hand table.rule reference uri)
+  target_under documents reference uri s dynamic fragment None = Err (not_at_hand table.reading.rule reference uri)
   target_under documents reference uri s dynamic fragment (Some n) =
       target_in documents reference uri s dynamic fragment n (slice_get table.resources n)
 
@@ -129,7 +132,7 @@ module _ (table : Table) where
 
   -- the target of a reference
   abbrev pub looked_up : List Document → Point → Text → Bool → Result (Found Point) Text
-  looked_up documents s reference dynamic = target_of_uri documents reference s dynamic (resolve_uri table.rule s.base reference)
+  looked_up documents s reference dynamic = target_of_uri documents reference s dynamic (resolve_uri table.reading.rule s.base reference)
 
   -- ---- recursive references
 

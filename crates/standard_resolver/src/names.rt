@@ -14,6 +14,7 @@ ghost use Rattle.schema_traits.specs.Showing.{Yields};
 ghost use Rattle.standard_resolver.specs.DocumentShowing.{Appends};
 ghost use Rattle.standard_resolver.specs.TargetWords.{first_dynamic_named, first_named};
 
+use crate::dialects::Reading;
 use crate::walk::{Visited, walked};
 use schema_drafts::Draft;
 use schema_reports::OutOfMemory;
@@ -96,7 +97,7 @@ fn push_name(
         names.push(Name {
             name: String::from_str(alloc, name)?,
             path: visited.path.clone()?,
-            draft: visited.draft,
+            draft: visited.dialect.draft,
             is_dynamic,
         })?;
     }
@@ -111,9 +112,9 @@ fn push_names(
 ) -> Result<(), OutOfMemory>
     ensures pushed { OnOk result (Appends name_of names.old.items names.new.items (names_at rule (visited_of visited.now))) }
 {
-    let plain = plain_name(rule, visited.draft, visited.schema);
+    let plain = plain_name(rule, visited.dialect.draft, visited.schema);
     push_name(alloc, visited, plain, false, names)?;
-    let dynamic = dynamic_name(rule, visited.draft, visited.schema);
+    let dynamic = dynamic_name(rule, visited.dialect.draft, visited.schema);
     push_name(alloc, visited, dynamic, true, names)
 }
 
@@ -149,12 +150,25 @@ fn numbered(alloc: Global, names: Vec<Name>) -> Result<Names, OutOfMemory>
 /// # Errors
 ///
 /// Out of memory.
-pub fn names_in(alloc: Global, rule: Rule, root: &Visited<'_>) -> Result<Names, OutOfMemory>
-    ensures names { Yields result (names_in rule (visited_of root.now)) }
+pub fn names_in(
+    alloc: Global,
+    reading: &Reading<'_>,
+    root: &Visited<'_>,
+) -> Result<Names, OutOfMemory>
+    ensures names { Yields result (names_in reading.now (visited_of root.now)) }
 {
+    let rule = reading.rule();
     let mut names = Vec::new(alloc);
     push_names(alloc, rule, root, &mut names)?;
-    for visited in &walked(alloc, rule, false, &root.path, "", root.draft, root.schema)? {
+    for visited in &walked(
+        alloc,
+        reading,
+        false,
+        &root.path,
+        "",
+        root.dialect,
+        root.schema,
+    )? {
         push_names(alloc, rule, visited, &mut names)?;
     }
     numbered(alloc, names)
