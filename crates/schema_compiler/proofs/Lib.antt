@@ -24,3 +24,4 @@ pub mod WorkedRows
 mod Unknown
 mod Absorbed
 mod Answered
+pub mod Boxed

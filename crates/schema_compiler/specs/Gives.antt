@@ -1,6 +1,7 @@
 -- The results of the compiler's functions, one definition each: what was made and found, or why it
 -- is refused.
 use Rattle.std.specs.Prelude.{Bool, List, MatchResult, Option, Result, String, if◌then◌else◌, map, option_map, string_bytes, ℕ, ◌++◌, ◌≡◌}
+use Rattle.std.specs.Global.{Box}
 use Rattle.std.specs.declared.alloc.Global.{Global}
 use Rattle.serde_json.specs.Data.{put}
 use Rattle.serde_json.specs.View.{members_view, view}
@@ -28,6 +29,7 @@ use Rattle.schema_compiler.specs.Carried.{AnswersChild, AnswersReference, LeadsT
 use Rattle.schema_compiler.specs.Carried.{RefusesChild, RefusesEdge, RefusesKey, RefusesMaker, RefusesMember, RefusesMembers, RefusesNode, RefusesObject, RefusesReference}
 use Rattle.schema_compiler.specs.Carried.{Table, filled, keyword_absorbs, member_absorbs}
 use Rattle.schema_compiler.specs.Given.{Given, given_by}
+use Rattle.schema_compiler.specs.Heads.{boxed_entry}
 use Rattle.schema_compiler.specs.Numbering.{BeginsNext, TakesNext}
 use Rattle.schema_compiler.specs.Reserving.{Ends, node_made}
 use Rattle.schema_compiler.specs.UnderWay.{GoesChild, GoesMaker, GoesMember, GoesMembers, GoesNode, GoesObject, GoesRefer, GoesReference, GoesTo, Reaches}
@@ -154,27 +156,27 @@ module _ {A P S T C Maker Run K : Type 0} (r : ResolverMembers A P S) (t : Table
         × (GoesMembers g.task before after asked_key (members_view members) (map entry_of o.entries.items)))
         (RefusesMembers g.task before asked_key (members_view members))
 
-    -- ---- one keyword, if there is one, and the names that it absorbs
+    -- ---- one keyword, boxed, if there is one, and the names that it absorbs
 
     -- that of a member
-    abbrev pub GivesMember : Entries → String Global → Value → List (String Global) → List (String Global) → Result (Option (Entry C)) BuildError → Type 0
+    abbrev pub GivesMember : Entries → String Global → Value → List (String Global) → List (String Global) → Result (Option (Box (Entry C))) BuildError → Type 0
     GivesMember members name value absorbed absorbed' result = MatchResult result
-        (λ o. (MakesMember g.task before after asked_key (members_view members) (string_bytes name) (view value) (option_map entry_of o))
+        (λ o. (MakesMember g.task before after asked_key (members_view members) (string_bytes name) (view value) (option_map boxed_entry o))
         × (Absorbs absorbed absorbed' (member_absorbs g.task asked_key (members_view members) (string_bytes name) (view value)))
-        × (GoesMember g.task before after asked_key (members_view members) (string_bytes name) (view value) (option_map entry_of o)))
+        × (GoesMember g.task before after asked_key (members_view members) (string_bytes name) (view value) (option_map boxed_entry o)))
         (RefusesMember g.task before asked_key (members_view members) (string_bytes name) (view value))
 
     -- that of a maker, whose reservations are given up
-    abbrev pub GivesMade : Entries → Bool → String Global → ℕ → Bool → List (String Global) → List (String Global) → Result (Option (Entry C)) BuildError → Type 0
+    abbrev pub GivesMade : Entries → Bool → String Global → ℕ → Bool → List (String Global) → List (String Global) → Result (Option (Box (Entry C))) BuildError → Type 0
     GivesMade members own name priority is_leaf absorbed absorbed' result = MatchResult result
-        (λ o. (MakesKeyword g.task before after asked_key (members_view members) own (string_bytes name) priority is_leaf (option_map entry_of o))
+        (λ o. (MakesKeyword g.task before after asked_key (members_view members) own (string_bytes name) priority is_leaf (option_map boxed_entry o))
         × (Absorbs absorbed absorbed' (keyword_absorbs g.task asked_key (members_view members) own (string_bytes name) priority is_leaf))
-        × (GoesMaker g.task before after asked_key (members_view members) own (string_bytes name) (option_map entry_of o))
-        × (Ends (place_of key.place) (string_bytes name) (node_made (option_map entry_of o)) old.reservations new.reservations))
+        × (GoesMaker g.task before after asked_key (members_view members) own (string_bytes name) (option_map boxed_entry o))
+        × (Ends (place_of key.place) (string_bytes name) (node_made (option_map boxed_entry o)) old.reservations new.reservations))
         (RefusesMaker g.task before asked_key (members_view members) own (string_bytes name))
 
     -- the same for a member with this head
-    abbrev pub GivesMadeBy : Entries → EntryHead → List (String Global) → List (String Global) → Result (Option (Entry C)) BuildError → Type 0
+    abbrev pub GivesMadeBy : Entries → EntryHead → List (String Global) → List (String Global) → Result (Option (Box (Entry C))) BuildError → Type 0
     GivesMadeBy members head absorbed absorbed' result = GivesMade members (is_own head.origin) head.name.now head.priority head.is_leaf absorbed absorbed' result
 
     -- ---- a reference keyword, if it is not skipped
@@ -187,10 +189,16 @@ module _ {A P S T C Maker Run K : Type 0} (r : ResolverMembers A P S) (t : Table
     abbrev pub ReferenceFound : String Global → Reference → Value → Option (Entry C) → Type 0
     ReferenceFound name kind value o = GoesReference g.task before after asked_key (string_bytes name) kind (view value) (option_map entry_of o)
 
-    -- it is made and found like this, or refused
+    -- it is made and found like this, or refused; the same of one that is boxed
     abbrev pub GivesReference : String Global → ℕ → ReferenceKind → Value → Result (Option (Entry C)) BuildError → Type 0
     GivesReference name priority kind value result = MatchResult result
         (λ o. (ReferenceMade name priority (kind_of kind) value o) × (ReferenceFound name (kind_of kind) value o))
+        (ReferenceRefused old key name (kind_of kind) value)
+
+    abbrev pub GivesBoxedReference : String Global → ℕ → ReferenceKind → Value → Result (Option (Box (Entry C))) BuildError → Type 0
+    GivesBoxedReference name priority kind value result = MatchResult result
+        (λ o. (MakesReference g.task before after asked_key (string_bytes name) priority (kind_of kind) (view value) (option_map boxed_entry o))
+        × (GoesReference g.task before after asked_key (string_bytes name) (kind_of kind) (view value) (option_map boxed_entry o)))
         (ReferenceRefused old key name (kind_of kind) value)
 
   -- ---- the worklist of a root

@@ -1,5 +1,6 @@
 -- The head of a keyword, its place among the others, and the edges that it keeps.
 use Rattle.std.specs.Prelude.{List, Option, [], insert, map, option_map, string_bytes, ℕ, ◌++◌, ◌∷◌, ◌≡◌}
+use Rattle.std.specs.Global.{Box}
 use Rattle.theory_definitions.specs.Guarded.{NodeForm, NodePart}
 use Rattle.schema_traits.specs.EdgeViews.{edge_of}
 use Rattle.schema_traits.specs.declared.numbers.Edge.{Edge}
@@ -16,6 +17,10 @@ part_with head form = record { name = string_bytes head.name.now; priority = hea
 -- or a lower one
 abbrev pub IsPlaceFor : {K : Type 0} → ℕ → List (NodePart K) → ℕ → Type 0
 IsPlaceFor {K} priority xs place = (x : NodePart K) → x.priority ≡ priority → insert xs place x ≡ placed_after x xs
+
+-- an entry that is boxed
+abbrev pub boxed_entry : {K : Type 0} → Box (Entry K) → NodePart K
+boxed_entry entry = entry_of entry.value
 
 -- an entry is inserted like that
 abbrev pub IsPlaced : {K : Type 0} → Entry K → List (Entry K) → List (Entry K) → Type 0

@@ -2,6 +2,7 @@ pub mod Ordering
 pub mod Heads
 pub mod Finding
 pub mod Reserving
+pub mod Requests
 pub mod ReservedViews
 pub mod Filling
 pub mod Steps

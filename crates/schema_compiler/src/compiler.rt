@@ -18,10 +18,10 @@ ghost use Rattle.schema_compiler.specs.MayCompile.{IsReady, MayCompile, MayMake,
 ghost use Rattle.schema_compiler.specs.Gives.{GivesChild, GivesEdge, GivesKeywords, GivesMadeBy, GivesMember, GivesNumber};
 ghost use Rattle.schema_compiler.specs.Gives.{GivesObject, GivesPlan, GivesTarget};
 
-use crate::compiler::annotations::{absorb, object_of, without};
+use crate::compiler::annotations::{object_of, without};
 use crate::compiler::compilation::{Compilation, PlannedNode};
-use crate::compiler::entries::{EntryHead, entry_named, insert_by_priority, node_alone};
-use crate::compiler::makers::keep_edge;
+use crate::compiler::entries::{EntryHead, insert_by_priority, node_alone};
+use crate::compiler::makers::{Request, keep_edge, made_entry};
 use crate::compiler::reservations::ReservedNode;
 use crate::compiler::setup::Compiler;
 use schema_drafts::{BuiltinEntry, BuiltinKeyword, CUSTOM_PRIORITY, KeywordForm, REF_PRIORITY};
@@ -29,10 +29,10 @@ use schema_keys::{
     BuildError, CompileOptions, Context, Reading, ReferenceKind, SchemaKey, find,
     object_of as object_in, reference_kind, value_of,
 };
-use schema_node_table::{Entry, EntryForm, NodeForm};
+use schema_node_table::{Entry, NodeForm};
 use schema_reports::{Location, LocationSegment};
 use schema_traits::{
-    Edge, KeywordOrigin, KeywordTable, MakerReply, MakerStep, Resolver, SchemaPath, Validate,
+    Edge, KeywordOrigin, KeywordTable, MakerReply, Resolver, SchemaPath, Validate,
 };
 use serde_json::{Map, Value};
 use std::alloc::Global;
@@ -162,15 +162,15 @@ impl<'p, R: Resolver, T> Compiler<'p, R, T> {
     fn edge_to<K: Validate>(
         &self,
         compiled: &mut Compilation<R::State, K>,
-        key: SchemaKey<R::State>,
+        key: &Rc<SchemaKey<R::State>>,
         reading: Reading<'p>,
         nests: bool,
         path: Location,
     ) -> Result<Edge, BuildError>
     where
         T: KeywordTable<K>,
-        requires { MayReach R.Resolver T.KeywordTable K.Validate self.now compiled.old key reading }
-        ensures { GivesEdge R.Resolver T.KeywordTable K.Validate self.now compiled.old compiled.new key nests path result }
+        requires { MayReach R.Resolver T.KeywordTable K.Validate self.now compiled.old key.now.value reading }
+        ensures { GivesEdge R.Resolver T.KeywordTable K.Validate self.now compiled.old compiled.new key.now.value nests path result }
     {
         let number = self.number_of(compiled, key, reading, nests)?;
         Ok(compiled.edge_at(number, path))
@@ -181,25 +181,23 @@ impl<'p, R: Resolver, T> Compiler<'p, R, T> {
     fn number_of<K: Validate>(
         &self,
         compiled: &mut Compilation<R::State, K>,
-        key: SchemaKey<R::State>,
+        key: &Rc<SchemaKey<R::State>>,
         reading: Reading<'p>,
         nests: bool,
     ) -> Result<usize, BuildError>
     where
         T: KeywordTable<K>,
-        requires { MayReach R.Resolver T.KeywordTable K.Validate self.now compiled.old key reading }
-        ensures { GivesNumber R.Resolver T.KeywordTable K.Validate self.now compiled.old compiled.new key nests result }
+        requires { MayReach R.Resolver T.KeywordTable K.Validate self.now compiled.old key.now.value reading }
+        ensures { GivesNumber R.Resolver T.KeywordTable K.Validate self.now compiled.old compiled.new key.now.value nests result }
     {
-        if let Some(number) = find::<R>(&compiled.keys, &key) {
-            drop(key);
+        if let Some(number) = find::<R>(&compiled.keys, key) {
             return Ok(number);
         }
-        let shared = Rc::new(self.alloc, key)?;
         if compiled.progress.is_full(nests, self.nested_limit) {
-            let number = self.number_within(compiled, &shared, None)?;
+            let number = self.number_within(compiled, key, None)?;
             return Ok(number.0);
         }
-        Ok(self.compile_number(compiled, &shared, reading, nests)?)
+        Ok(self.compile_number(compiled, key, reading, nests)?)
     }
 
     // Compiles a key that has no number, at the next number.
@@ -341,7 +339,7 @@ impl<'p, R: Resolver, T> Compiler<'p, R, T> {
         name: &String,
         value: &Value,
         absorbed: &mut Vec<String>,
-    ) -> Result<Option<Entry<K>>, BuildError>
+    ) -> Result<Option<Box<Entry<K>>>, BuildError>
     where
         T: KeywordTable<K>,
         requires { MayMake R.Resolver T.KeywordTable K.Validate self.now compiled.old key.now members.now.entries }
@@ -382,8 +380,9 @@ impl<'p, R: Resolver, T> Compiler<'p, R, T> {
     }
 
     // Runs a maker and returns the keyword that it makes, if any. The names that it absorbs are
-    // added.
+    // added. Not inlined, so that a reference does not pay for its stack frame.
     #[cycle(compile)]
+    #[inline(never)]
     fn make_entry<K: Validate>(
         &self,
         compiled: &mut Compilation<R::State, K>,
@@ -391,7 +390,7 @@ impl<'p, R: Resolver, T> Compiler<'p, R, T> {
         members: &'p Map<String, Value>,
         head: EntryHead<'_>,
         absorbed: &mut Vec<String>,
-    ) -> Result<Option<Entry<K>>, BuildError>
+    ) -> Result<Option<Box<Entry<K>>>, BuildError>
     where
         T: KeywordTable<K>,
         requires may { MayMake R.Resolver T.KeywordTable K.Validate self.now compiled.old key.now members.now.entries }
@@ -404,14 +403,14 @@ impl<'p, R: Resolver, T> Compiler<'p, R, T> {
         let mut children = Vec::new(self.alloc);
         let mut reply = MakerReply::Begun;
         loop {
-            match self.table.turn(self.alloc, &mut maker, reply)? {
-                MakerStep::Compile(path) => {
+            match self.turn(&mut *maker, reply)? {
+                Request::Compile(path) => {
                     let made = self.child_edge(compiled, key, members, &path);
                     drop(path);
                     let edge = made?;
                     reply = keep_edge(&mut children, Some(edge))?;
                 }
-                MakerStep::Refer(text) => {
+                Request::Refer(text) => {
                     let edge = self.reference_edge(
                         compiled,
                         key,
@@ -421,27 +420,31 @@ impl<'p, R: Resolver, T> Compiler<'p, R, T> {
                     )?;
                     reply = keep_edge(&mut children, edge)?;
                 }
-                MakerStep::Pending(kind) => {
+                Request::Pending(kind) => {
                     reply = compiled.reservations.pending_reply(kind, &key.place);
                 }
-                MakerStep::Reserve(kind) => {
+                Request::Reserve(kind) => {
                     reply = compiled.reservations.reserve(kind, &key.place, head.name)?;
                 }
-                MakerStep::Keyword(keyword, names) => {
-                    absorb(absorbed, names)?;
-                    compiled
-                        .reservations
-                        .give_up(first, ReservedNode::OfItsKeyword);
-                    let form = EntryForm::Keyword(keyword, children);
-                    return Ok(Some(entry_named(head, form)?));
+                Request::Keyword(made) => {
+                    let entry = made_entry(
+                        self.alloc,
+                        &mut compiled.reservations,
+                        first,
+                        absorbed,
+                        head,
+                        children,
+                        made,
+                    )?;
+                    return Ok(Some(entry));
                 }
-                MakerStep::Nothing => {
+                Request::Nothing => {
                     compiled
                         .reservations
                         .give_up(first, ReservedNode::OfNoEntry);
                     return Ok(None);
                 }
-                MakerStep::Refuse(error) => return Err(BuildError::KeywordRefused(error)),
+                Request::Refuse(error) => return Err(BuildError::KeywordRefused(error)),
             }
         }
     }
@@ -466,9 +469,9 @@ impl<'p, R: Resolver, T> Compiler<'p, R, T> {
             options: self.options,
             key,
         };
-        let below = context.in_subresource(members, path)?;
+        let below = context.shared_subresource(members, path)?;
         let reading = Reading::Read(below.value);
-        Ok(self.edge_to(compiled, below.key, reading, false, below.pointer)?)
+        Ok(self.edge_to(compiled, &below.key, reading, false, below.pointer)?)
     }
 
     /// Returns the edge to a reference's target.
@@ -490,10 +493,10 @@ impl<'p, R: Resolver, T> Compiler<'p, R, T> {
             compiled.old compiled.new key.now name.now kind text.now result }
     {
         let path = Location::new(self.alloc).join(LocationSegment::Property(name.as_str()))?;
-        match self.target_of(key, kind, text.as_str())? {
+        match self.shared_target(key, kind, text.as_str())? {
             None => Ok(None),
             Some(target) => {
-                let edge = self.edge_to(compiled, target, Reading::Unread, kind.nests(), path)?;
+                let edge = self.edge_to(compiled, &target, Reading::Unread, kind.nests(), path)?;
                 Ok(Some(edge))
             }
         }

@@ -3,10 +3,10 @@ ghost use Rattle.std.specs.Prelude.{◌≡◌, string_bytes};
 ghost use Rattle.schema_traits.specs.MakerViews.{name_of};
 ghost use Rattle.schema_keys.specs.declared.references.ReferenceKind.TheVariants.{Dynamic, Recursive, Ref};
 ghost use Rattle.schema_compiler.specs.MayCompile.{MayRefer};
-ghost use Rattle.schema_compiler.specs.Gives.{GivesReference};
+ghost use Rattle.schema_compiler.specs.Gives.{GivesBoxedReference, GivesReference};
 
 use crate::compiler::compilation::Compilation;
-use crate::compiler::entries::{EntryHead, entry_named};
+use crate::compiler::entries::{EntryHead, entry_named, unboxed};
 use crate::compiler::setup::Compiler;
 use schema_keys::{BuildError, Context, SchemaKey};
 pub use schema_keys::{RefTarget, ReferenceKind};
@@ -55,7 +55,8 @@ impl<'p, R: Resolver, T> Compiler<'p, R, T> {
             name.now priority Ref value.now result }
     {
         let head = head_of(name, priority);
-        self.reference_by(compiled, key, head, ReferenceKind::Ref, value)
+        let entry = self.reference_by(compiled, key, head, ReferenceKind::Ref, value)?;
+        Ok(unboxed(entry))
     }
 
     /// Compiles a `$dynamicRef` with this value, and what it leads to.
@@ -83,7 +84,8 @@ impl<'p, R: Resolver, T> Compiler<'p, R, T> {
             name.now priority Dynamic value.now result }
     {
         let head = head_of(name, priority);
-        self.reference_by(compiled, key, head, ReferenceKind::Dynamic, value)
+        let entry = self.reference_by(compiled, key, head, ReferenceKind::Dynamic, value)?;
+        Ok(unboxed(entry))
     }
 
     /// Compiles a `$recursiveRef` with this value, and what it leads to.
@@ -110,12 +112,14 @@ impl<'p, R: Resolver, T> Compiler<'p, R, T> {
             name.now priority Recursive value.now result }
     {
         let head = head_of(name, priority);
-        self.reference_by(compiled, key, head, ReferenceKind::Recursive, value)
+        let entry = self.reference_by(compiled, key, head, ReferenceKind::Recursive, value)?;
+        Ok(unboxed(entry))
     }
 
     /// Compiles the reference of this kind under a keyword.
     ///
-    /// `None` if the reference is skipped. The keyword is not a leaf, whatever its head says.
+    /// It is boxed; `None` if the reference is skipped. The keyword is not a leaf, whatever its head
+    /// says.
     #[cycle(compile)]
     pub(crate) fn reference_by<K: Validate>(
         &self,
@@ -124,12 +128,12 @@ impl<'p, R: Resolver, T> Compiler<'p, R, T> {
         head: EntryHead<'_>,
         kind: ReferenceKind,
         value: &Value,
-    ) -> Result<Option<Entry<K>>, BuildError>
+    ) -> Result<Option<Box<Entry<K>>>, BuildError>
     where
         T: KeywordTable<K>,
         requires may { MayRefer R.Resolver T.KeywordTable K.Validate self.now compiled.old }
         requires named { name_of head.origin ≡ string_bytes head.name.now }
-        ensures { GivesReference R.Resolver T.KeywordTable K.Validate self.now
+        ensures { GivesBoxedReference R.Resolver T.KeywordTable K.Validate self.now
             compiled.old compiled.new key.now head.entry.name.now head.entry.priority kind value.now result }
     {
         let context = Context {
@@ -146,7 +150,8 @@ impl<'p, R: Resolver, T> Compiler<'p, R, T> {
                     is_leaf: false,
                     ..head
                 };
-                Ok(Some(entry_named(head, EntryForm::Reference(edge))?))
+                let form = EntryForm::Reference(edge);
+                Ok(Some(entry_named(self.alloc, head, form)?))
             }
         }
     }

@@ -1,6 +1,7 @@
 -- The documents of a schema, by the code's lists of places.
 use Rattle.std.proofs.Common.{◌≡◌, ◌∙◌, ◌<◌, ◌≤◌, ◌+◌, ◌==◌, ◌++◌, ◌&&◌, ◌||◌, ◌∷◌, [], ℕ, not, zero, suc, Bool, true, false, List, Some, ap, append-nil, inl, inr, arith, drop, get_or, length, map, refl, subst, sym}
 use Rattle.std.specs.Prelude.{IfSome, MatchOption, None, Option, flat_map, if◌then◌else◌, is_some, option_map, unwrap_or}
+use Rattle.std.specs.Global.{Box}
 use Rattle.std.specs.List.{AllByRecursion}
 use Rattle.std.proofs.lemmas.Bool.{eqb-true}
 use Rattle.std.proofs.lemmas.List.{drop_all, drop_more}
@@ -233,10 +234,10 @@ module _ {S : Type 0} (r : Resolver S) (refuses : MetaChecks) where
   refuses_more root ds es among (NodeLimit limit) h = absurd h
 
   -- an error in the document itself, relative to the root
-  pub error_located : (root p : spec.SchemaPlace) (draft : Draft) (qs : List Cut) (schema : Data) (o : Option OwnedError) (error e : OwnedError)
+  pub error_located : (root p : spec.SchemaPlace) (draft : Draft) (qs : List Cut) (schema : Data) (o : Option OwnedError) (error : OwnedError) (e : Box OwnedError)
       → schema ≡ schema_at (resolving_parts r) p → passes_unseen (resolving_parts r) schema ≡ false → o ≡ Some error
       → MatchOption o (refuses false draft (masked (resolving_parts r) qs p schema) ≡ None) (IsErrorBelow refuses [] draft (masked (resolving_parts r) qs p schema))
-      → owned_error_of e ≡ prefixed (location_from root p) (owned_error_of error) → RefusesOne (resolving_parts r) refuses root (own_document (resolving_parts r) qs draft p) (MetaSchema e)
+      → owned_error_of e.value ≡ prefixed (location_from root p) (owned_error_of error) → RefusesOne (resolving_parts r) refuses root (own_document (resolving_parts r) qs draft p) (MetaSchema e)
   error_located root p draft qs schema o error e read seen is refused located =
       let w = resolving_parts r in
       let value = masked w qs p (schema_at w p) in

@@ -57,7 +57,7 @@ module _ {S K R : Type 0} (w : Parts S K R) (refuses : MetaChecks) where
   -- a refusal holds the error of the first document that is not accepted; `OutOfMemory` claims
   -- nothing
   abbrev pub RefusesOne : SchemaPlace → List (Document w) → BuildError → Type 0
-  RefusesOne root ds (MetaSchema e) = (d : Document w) × FollowsAccepted ds d × IsErrorBelow refuses (location_from root d.place) d.draft d.value e
+  RefusesOne root ds (MetaSchema e) = (d : Document w) × FollowsAccepted ds d × IsErrorBelow refuses (location_from root d.place) d.draft d.value e.value
   RefusesOne root ds OutOfMemory = Unit {0}
   RefusesOne root ds (NotASchema location) = ⊥
   RefusesOne root ds (ReferenceNotText location) = ⊥

@@ -35,9 +35,9 @@ abbrev pub refusal_text : BuildError → List ℕ
 refusal_text (NotASchema location) = codes "refusal 1 at '" ++ (location ++ codes "': the value is neither an object nor a boolean")
 refusal_text (ReferenceNotText location) = codes "refusal 2 at '" ++ (location ++ codes "': the reference is not a text")
 refusal_text (Lookup text) = codes "refusal 3: " ++ string_bytes text
-refusal_text (KeywordRefused error) = codes "refusal 4 at '" ++ (error.schema_path ++ (codes "': " ++ string_bytes error.text))
+refusal_text (KeywordRefused error) = codes "refusal 4 at '" ++ (error.value.schema_path ++ (codes "': " ++ string_bytes error.value.text))
 refusal_text (UnsupportedVocabulary uri) = codes "Unknown vocabulary: '" ++ (string_bytes uri ++ codes "' is required by the meta-schema. Adjust configuration to declare support for it")
-refusal_text (MetaSchema error) = codes "refusal 6 at '" ++ (error.instance_path ++ (codes "', by '" ++ (error.schema_path ++ (codes "' of the meta-schema: " ++ string_bytes error.text))))
+refusal_text (MetaSchema error) = codes "refusal 6 at '" ++ (error.value.instance_path ++ (codes "', by '" ++ (error.value.schema_path ++ (codes "' of the meta-schema: " ++ string_bytes error.value.text))))
 refusal_text (MissingRoot uri) = codes "refusal 7: there is no document under '" ++ (string_bytes uri ++ codes "'")
 refusal_text (NodeLimit limit) = codes "refusal 8: more than " ++ (decimal limit ++ codes " keys are reached")
 refusal_text OutOfMemory = codes "refusal 9: memory could not be had"
@@ -56,7 +56,7 @@ abbrev pub IsRefusal : {S : Type 0} → ℕ → List (Key S) → (Key S → Type
 IsRefusal limit keys P C (NotASchema location) = C (not_a_schema location)
 IsRefusal limit keys P C (ReferenceNotText location) = C (reference_not_text location)
 IsRefusal limit keys P C (Lookup text) = C (lookup_refuses (string_bytes text))
-IsRefusal limit keys P C (KeywordRefused error) = (told : Bool) × C (keyword_refused told (told_error told (owned_error_of error)))
+IsRefusal limit keys P C (KeywordRefused error) = (told : Bool) × C (keyword_refused told (told_error told (owned_error_of error.value)))
 IsRefusal limit keys P C (UnsupportedVocabulary uri) = C (unsupported_vocabulary (string_bytes uri))
 IsRefusal limit keys P C (MetaSchema error) = ⊥
 IsRefusal limit keys P C (MissingRoot uri) = ⊥
@@ -72,7 +72,7 @@ abbrev pub Names : List Cause → BuildError → Type 0
 Names cs (NotASchema location) = In cs (not_a_schema location)
 Names cs (ReferenceNotText location) = In cs (reference_not_text location)
 Names cs (Lookup text) = In cs (lookup_refuses (string_bytes text))
-Names cs (KeywordRefused error) = (told : Bool) × In cs (keyword_refused told (told_error told (owned_error_of error)))
+Names cs (KeywordRefused error) = (told : Bool) × In cs (keyword_refused told (told_error told (owned_error_of error.value)))
 Names cs (UnsupportedVocabulary uri) = In cs (unsupported_vocabulary (string_bytes uri))
 Names cs (MetaSchema error) = ⊥
 Names cs (MissingRoot uri) = ⊥

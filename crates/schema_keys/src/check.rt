@@ -134,7 +134,10 @@ impl<'p, R: Resolver, V: MetaValidators> SchemaCheck<'p, R, V> {
             return Ok(());
         }
         match self.refusal_without(draft, place, schema, cuts)? {
-            Some(error) => Err(BuildError::MetaSchema(self.locate(place, error)?)),
+            Some(error) => {
+                let located = self.locate(place, error)?;
+                Err(BuildError::MetaSchema(Box::new(self.alloc, located)?))
+            }
             None => Ok(()),
         }
     }

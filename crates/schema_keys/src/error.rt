@@ -13,7 +13,8 @@ use std::fmt;
 
 /// Why a schema was refused.
 ///
-/// `number` returns the variant's number, and `Display` writes a message for people.
+/// `number` returns the variant's number, and `Display` writes a message for people. Errors are
+/// boxed, so that a step of a build that may be refused takes little stack.
 #[derive(Drop)]
 pub enum BuildError {
     /// The value at this location is neither an object nor a boolean.
@@ -23,11 +24,11 @@ pub enum BuildError {
     /// The resolver refused a reference or a subschema, with this message.
     Lookup(String),
     /// A keyword refused the schema, with this error.
-    KeywordRefused(OwnedError),
+    KeywordRefused(Box<OwnedError>),
     /// The vocabulary with this URI is required, but was not declared.
     UnsupportedVocabulary(String),
     /// The schema is not valid against its meta-schema.
-    MetaSchema(OwnedError),
+    MetaSchema(Box<OwnedError>),
     /// The resolver has no document under this URI.
     MissingRoot(String),
     /// More than this many keys are reached.

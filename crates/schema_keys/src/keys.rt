@@ -125,6 +125,7 @@ fn hash_of<S: Hash>(key: &SchemaKey<S>) -> u64
 }
 
 /// Returns the number of a key, if it has one.
+#[inline(never)]
 pub fn find<R: Resolver>(keys: &Keys<R::State>, key: &SchemaKey<R::State>) -> Option<usize>
     ensures found { IsNumberOf (map (key_of R.point) keys.now) (key_of R.point key.now) result }
 {

@@ -17,6 +17,7 @@ use schema_drafts::{Draft, VocabularySet};
 use schema_reports::{Location, OutOfMemory};
 use schema_traits::{LookupError, Resolver, SchemaPath, SchemaPlace, Target};
 use serde_json::{Map, Value};
+use std::rc::Rc;
 
 /// A subschema: its key, its pointer, and its value.
 ///
@@ -24,6 +25,14 @@ use serde_json::{Map, Value};
 #[derive(Drop)]
 pub struct Subschema<'p, S> {
     pub key: SchemaKey<S>,
+    pub pointer: Location,
+    pub value: Option<&'p Value>,
+}
+
+/// A subschema whose key is shared.
+#[derive(Drop)]
+pub struct SharedSubschema<'p, S> {
+    pub key: Rc<SchemaKey<S>>,
     pub pointer: Location,
     pub value: Option<&'p Value>,
 }
@@ -156,6 +165,34 @@ impl<'p, 'c, R: Resolver> Context<'p, 'c, R> {
             key,
             pointer,
             value,
+        })
+    }
+
+    /// Returns the subschema at a path below, with a shared key.
+    ///
+    /// Not inlined, so that its stack frame has ended when the subschema is compiled.
+    ///
+    /// # Errors
+    ///
+    /// The errors of `in_subresource`.
+    #[inline(never)]
+    pub fn shared_subresource(
+        &self,
+        members: &'p Map<String, Value>,
+        path: &SchemaPath,
+    ) -> Result<SharedSubschema<'p, R::State>, BuildError>
+        requires object { HasMembers R.Resolver self.now members.now.entries }
+        ensures below { IfOk result (λ s. IsSubschemaKey R.Resolver self.now path.now s.key.value) }
+        ensures pointer { IfOk result (λ s. s.pointer ≡ pointer_to path.now) }
+        ensures read { IfOk result (λ s. IsReadHere R.Resolver self.now s.key.value.place s.value) }
+        ensures refused { IfErr result (RefusesSubschema R.Resolver self.now path.now) }
+    {
+        let below = self.in_subresource(members, path)?;
+        let key = Rc::new(self.alloc, below.key)?;
+        Ok(SharedSubschema {
+            key,
+            pointer: below.pointer,
+            value: below.value,
         })
     }
 

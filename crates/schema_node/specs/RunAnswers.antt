@@ -1,5 +1,8 @@
 -- The answers of the functions of a run, over the values of the code: one word for each.
+use Rattle.std.specs.Global.{Box}
 use Rattle.std.specs.Prelude.{Bool, IfOk, List, Option, Result, map, option_map, ℕ, ◌≡◌, ◌≤◌}
+use Rattle.theory_definitions.specs.Instance.{Text}
+use Rattle.theory_definitions.specs.Guarded.{NodeForm}
 use Rattle.schema_reports.specs.declared.evaluation.EvaluationNode.{EvaluationNode}
 use Rattle.schema_traits.specs.EdgeViews.{edge_of}
 use Rattle.schema_traits.specs.KeywordViews.{below_of}
@@ -20,9 +23,9 @@ use Rattle.schema_run_steps.specs.declared.evaluation_order.EntryUnits.{EntryUni
 use Rattle.schema_run_steps.specs.declared.question.Engine.{Engine}
 use Rattle.schema_run_steps.specs.declared.question.NamedKeyword.{NamedKeyword}
 use Rattle.schema_run_steps.specs.declared.question.Question.{Question}
-use Rattle.theory_runs.specs.Answered.{Answered, Answers, ChildGiven, ChildReplied, EdgeGiven, EdgeReplied, EntryReplied, FormGiven, FormReplied, NodeGiven, NodeReplied, PartsGiven, PartsReplied, PlanGiven, PlanReplied, Turns, Wanted, an_edge, setting_by, the_entry, the_keyword}
-use Rattle.theory_runs.specs.RunStates.{Keeps, MeetsChild, MeetsForm, MeetsNode, NodeRemembers, NodeSays, PassesItsOwn, RunBorrows, Setting, StaysRight}
-use Rattle.theory_runs.specs.UnitStates.{ChildTells, FindsRightly}
+use Rattle.theory_runs.specs.Answered.{Answered, Answers, ChildReplied, EdgeReplied, EntryReplied, FormReplied, NodeReplied, PartsGiven, PartsReplied, PlanReplied, Replied, RepliedQuietly, Turns, Wanted, an_edge, setting_by, the_entry, the_keyword}
+use Rattle.theory_runs.specs.RunStates.{Keeps, MeetsChild, MeetsEdge, MeetsForm, MeetsNode, NodeRemembers, NodeSays, PassesItsOwn, RunBorrows, Setting, StaysRight}
+use Rattle.theory_runs.specs.UnitStates.{ChildGives, ChildTells, EdgeGives, FindsRightly, FormGives, NodeGives}
 use Rattle.theory_runs.specs.Visits.{LeadsNowhere, NodeCounts}
 
 -- ---- what stays the same in the context, if there is a result
@@ -109,28 +112,40 @@ module _ {C R K M E : Type 0} (k : keyword.Ghosts C R K) (m : matcher.Ghosts M) 
   abbrev pub ReplyOfEdge : Edge → Context → Context → Result code.Reply E → Type 0
   ReplyOfEdge edge c c' result = EdgeReplied (setting_by k m e) q (edge_of edge) c c' result
 
-  -- ---- their units
+  -- ---- their units, boxed
 
-  abbrev pub UnitOfNode : ℕ → Context → Context → Result EvaluationNode E → Type 0
-  UnitOfNode i c c' result = NodeGiven (setting_by k m e) q i c c' result
+  abbrev pub UnitOfNode : ℕ → Context → Context → Result (Box EvaluationNode) E → Type 0
+  UnitOfNode i c c' result = Replied (setting_by k m e) (asking q) c c' result (λ u. NodeGives (setting_by k m e) (asking q) c i u.value)
+      (MeetsNode (setting_by k m e) (asking q) c c' i) (Asks c.work c'.work)
 
-  abbrev pub UnitOfPlan : ℕ → Context → Context → Result EvaluationNode E → Type 0
-  UnitOfPlan i c c' result = PlanGiven (setting_by k m e) q i c c' result
+  abbrev pub UnitOfPlan : ℕ → Context → Context → Result (Box EvaluationNode) E → Type 0
+  UnitOfPlan i c c' result = Replied (setting_by k m e) (asking q) c c' result (λ u. NodeGives (setting_by k m e) (asking q) c i u.value)
+      (MeetsNode (setting_by k m e) (asking q) c c' i) (Spends c.work c'.work)
 
   abbrev pub UnitsOfEntries : ℕ → List (Entry C) → Context → Context → Result (List EvaluationNode) E → Type 0
   UnitsOfEntries i xs c c' result = PartsGiven (setting_by k m e) q i (map (shaped_part k.shape) (map entry_of xs)) c c' result
 
-  abbrev pub UnitsOfEntry : ℕ → Entry C → Context → Context → Result EntryUnits E → Type 0
-  UnitsOfEntry i x c c' result = FormGiven (setting_by k m e) q i x.name (shaped_form k.shape (form_of x.form)) c c' result
+  -- the units of a form with this name
+  abbrev pub UnitsOfForm : ℕ → Text → NodeForm K → Context → Context → Result (Box EntryUnits) E → Type 0
+  UnitsOfForm i name form c c' result = Replied (setting_by k m e) (asking q) c c' result (λ us. FormGives (setting_by k m e) (asking q) c i name form us.value)
+      (MeetsForm (setting_by k m e) (asking q) c c' i name form) (Spends c.work c'.work)
 
-  abbrev pub UnitsOfKeyword : ℕ → NamedKeyword C → Context → Context → Result EntryUnits E → Type 0
-  UnitsOfKeyword i w c c' result = FormGiven (setting_by k m e) q i w.name.now (form_at_work k.shape w) c c' result
+  abbrev pub UnitsOfEntry : ℕ → Entry C → Context → Context → Result (Box EntryUnits) E → Type 0
+  UnitsOfEntry i x c c' result = UnitsOfForm i x.name (shaped_form k.shape (form_of x.form)) c c' result
 
-  abbrev pub UnitOfChild : ℕ → List (Option Edge) → ℕ → Below → Context → Context → Result EvaluationNode E → Type 0
-  UnitOfChild i es n below c c' result = ChildGiven (setting_by k m e) q i (map (option_map edge_of) es) (record { child = n; below = below_of below }) c c' result
+  abbrev pub UnitsOfKeyword : ℕ → NamedKeyword C → Context → Context → Result (Box EntryUnits) E → Type 0
+  UnitsOfKeyword i w c c' result = UnitsOfForm i w.name.now (form_at_work k.shape w) c c' result
 
-  abbrev pub UnitOfEdge : Edge → Context → Context → Result EvaluationNode E → Type 0
-  UnitOfEdge edge c c' result = EdgeGiven (setting_by k m e) q (edge_of edge) c c' result
+  abbrev pub UnitOfChild : ℕ → List (Option Edge) → ℕ → Below → Context → Context → Result (Box EvaluationNode) E → Type 0
+  UnitOfChild i es n below c c' result =
+      let children = map (option_map edge_of) es in
+      let asked = record { child = n; below = below_of below } in
+      RepliedQuietly (setting_by k m e) (asking q) c c' result children (λ u. ChildGives (setting_by k m e) (asking q) c i children asked u.value)
+      (MeetsChild (setting_by k m e) (asking q) c c' i children asked)
+
+  abbrev pub UnitOfEdge : Edge → Context → Context → Result (Box EvaluationNode) E → Type 0
+  UnitOfEdge edge c c' result = Replied (setting_by k m e) (asking q) c c' result (λ u. EdgeGives (setting_by k m e) (asking q) c (edge_of edge) u.value)
+      (MeetsEdge (setting_by k m e) (asking q) c c' (edge_of edge)) (Spends c.work c'.work)
 
 -- ---- a keyword's turns, and its children in them
 

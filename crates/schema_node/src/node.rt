@@ -4,6 +4,7 @@
 //! returns one truth value, `run` returns errors, and `evaluate` returns units. The solver, in
 //! `schema_solver`, has a fourth one.
 
+mod boxed;
 mod evaluate;
 mod run;
 pub mod runs;

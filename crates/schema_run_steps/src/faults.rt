@@ -275,6 +275,7 @@ fn all_finished<'i, K>(
 /// # Errors
 ///
 /// Out of memory.
+#[inline(never)]
 pub fn finished<'i, K>(
     alloc: Global,
     node: &Node<K>,

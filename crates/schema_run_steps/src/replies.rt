@@ -95,6 +95,7 @@ fn joined_all<'i>(
 /// # Errors
 ///
 /// Out of memory.
+#[inline(never)]
 pub fn joined<'i>(found: Reply<'i>, more: Reply<'i>) -> Result<Reply<'i>, OutOfMemory>
     ensures both { IfOk result (SaysBoth found.entry more.entry) }
     ensures borrows { IfOk result (BorrowsBoth found.entry more.entry) }
@@ -217,6 +218,7 @@ fn stamped_by_base<'i, K>(
 /// # Errors
 ///
 /// Out of memory.
+#[inline(never)]
 pub fn stamped_reply<'i, K>(
     alloc: Global,
     node: &Node<K>,

@@ -16,6 +16,7 @@ use serde_json::{Map, Value};
 
 impl<'p, R: Resolver, T> Compiler<'p, R, T> {
     /// Stores a member whose name the key's draft does not know.
+    #[inline(never)]
     pub(crate) fn keep_unknown(
         &self,
         key: &SchemaKey<R::State>,
@@ -35,6 +36,7 @@ impl<'p, R: Resolver, T> Compiler<'p, R, T> {
 }
 
 /// Appends the names that a keyword absorbs to those of the keywords before it.
+#[inline(never)]
 pub(crate) fn absorb(absorbed: &mut Vec<String>, names: Vec<String>) -> Result<(), OutOfMemory>
     ensures added { OnOk result (Absorbs absorbed.old.items absorbed.new.items (map string_bytes names.items)) }
 {
@@ -44,6 +46,7 @@ pub(crate) fn absorb(absorbed: &mut Vec<String>, names: Vec<String>) -> Result<(
 }
 
 /// Returns the members except those with these names.
+#[inline(never)]
 pub(crate) fn without(members: Map<String, Value>, names: &[String]) -> Map<String, Value>
     ensures left { members_view result.entries ≡ without (map string_bytes names.now) (members_view members.entries) }
 {

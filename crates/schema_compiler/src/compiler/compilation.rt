@@ -184,6 +184,7 @@ impl<'p, R: Resolver, T> Compiler<'p, R, T> {
     }
 
     /// Adds a key and its node at the next number, unless the limit is reached.
+    #[inline(never)]
     pub(crate) fn number_within<K: Validate>(
         &self,
         compiled: &mut Compilation<R::State, K>,
@@ -204,6 +205,7 @@ impl<'p, R: Resolver, T> Compiler<'p, R, T> {
     /// Adds a key that is compiled at once, unless the limit is reached.
     ///
     /// Its node is in progress in this round. What is made from now on is made inside it.
+    #[inline(never)]
     pub(crate) fn begin_number<K: Validate>(
         &self,
         compiled: &mut Compilation<R::State, K>,

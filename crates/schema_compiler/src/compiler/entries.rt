@@ -3,7 +3,8 @@ ghost use Rattle.std.specs.Prelude.{◌≡◌, ◌≤◌, IfOk, None, map, lengt
 ghost use Rattle.schema_traits.specs.MakerViews.{name_of};
 ghost use Rattle.schema_traits.specs.Showing.{Shows, Yields};
 ghost use Rattle.schema_node_table.specs.NodeViews.{entry_of, form_of, plan_of};
-ghost use Rattle.schema_compiler.specs.Heads.{IsPlaceFor, IsPlaced, part_with};
+ghost use Rattle.std.specs.Box.{box_value};
+ghost use Rattle.schema_compiler.specs.Heads.{IsPlaceFor, IsPlaced, boxed_entry, part_with};
 ghost use Rattle.schema_compiler.specs.Steps.{alone};
 
 use crate::compiler::compilation::PlannedNode;
@@ -34,12 +35,14 @@ fn place_for<K>(entries: &[Entry<K>], priority: u8) -> usize
 }
 
 /// Inserts a keyword at its place.
+#[inline(never)]
 pub(crate) fn insert_by_priority<K: Drop>(
     entries: &mut Vec<Entry<K>>,
-    entry: Entry<K>,
+    entry: Box<Entry<K>>,
 ) -> Result<(), OutOfMemory>
-    ensures placed { OnOk result (IsPlaced entry entries.old.items entries.new.items) }
+    ensures placed { OnOk result (IsPlaced entry.value entries.old.items entries.new.items) }
 {
+    let entry = Box::into_inner(entry);
     let place = place_for(entries.as_slice(), entry.priority);
     entries.insert(place, entry)?;
     Ok(())
@@ -56,36 +59,53 @@ fn name_for(origin: KeywordOrigin<'_>, name: &String) -> Result<KeywordName, Out
     }
 }
 
-/// Returns the entry with this head and form.
+/// Returns the entry with this head and form, boxed.
+///
+/// Entries are boxed until they are inserted, so that a level of a build takes little stack.
+#[inline(never)]
 pub(crate) fn entry_named<K: Drop>(
+    alloc: Global,
     head: EntryHead<'_>,
     form: EntryForm<K>,
-) -> Result<Entry<K>, OutOfMemory>
+) -> Result<Box<Entry<K>>, OutOfMemory>
     requires named { name_of head.origin ≡ string_bytes head.name.now }
-    ensures entry { Shows entry_of result (part_with head.entry (form_of form)) }
+    ensures entry { Shows boxed_entry result (part_with head.entry (form_of form)) }
 {
-    Ok(Entry {
-        name: name_for(head.origin, head.name)?,
+    let name = name_for(head.origin, head.name)?;
+    let entry = Entry {
+        name,
         priority: head.priority,
         is_leaf: head.is_leaf,
         form,
-    })
+    };
+    Ok(Box::new(alloc, entry)?)
+}
+
+/// Returns an entry without its box.
+pub(crate) fn unboxed<K>(entry: Option<Box<Entry<K>>>) -> Option<Entry<K>>
+    ensures same { result ≡ option_map box_value entry }
+{
+    match entry {
+        None => None,
+        Some(entry) => Some(Box::into_inner(entry)),
+    }
 }
 
 /// Returns the plan of a node with one keyword.
 ///
 /// Without a keyword, the node accepts everything.
+#[inline(never)]
 pub(crate) fn node_alone<K: Drop>(
     alloc: Global,
-    entry: Option<Entry<K>>,
+    entry: Option<Box<Entry<K>>>,
 ) -> Result<PlannedNode<K>, OutOfMemory>
-    ensures plan { IfOk result (λ n. plan_of n.form ≡ alone (option_map entry_of entry)) }
+    ensures plan { IfOk result (λ n. plan_of n.form ≡ alone (option_map boxed_entry entry)) }
     ensures annotations { IfOk result (λ n. n.annotations ≡ None) }
 {
     let form = match entry {
         Some(entry) => {
             let mut entries = Vec::new(alloc);
-            entries.push(entry)?;
+            entries.push(Box::into_inner(entry))?;
             NodeForm::Keywords(entries)
         }
         None => NodeForm::Always,

@@ -132,6 +132,7 @@ impl Reservations {
     }
 
     /// Returns the reply to a maker that requests its pending number.
+    #[inline(never)]
     pub(crate) fn pending_reply(&self, kind: PendingKind, object: &SchemaPlace) -> MakerReply
         ensures told { TellsPending self.now (purpose_of kind) (place_of object.now) result }
     {
@@ -141,6 +142,7 @@ impl Reservations {
     /// Reserves the next number, for the maker of this keyword.
     ///
     /// Returns the reply to the maker.
+    #[inline(never)]
     pub(crate) fn reserve(
         &mut self,
         kind: PendingKind,
@@ -165,6 +167,7 @@ impl Reservations {
     /// Gives up the numbers in force from `from` on.
     ///
     /// They then stand for this node.
+    #[inline(never)]
     pub(crate) fn give_up(&mut self, from: usize, node: ReservedNode)
         ensures given_up { self.new ≡ with_nodes_from from (node_of node) self.old }
     {

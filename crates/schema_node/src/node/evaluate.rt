@@ -1,19 +1,21 @@
 //! Evaluates nodes over instances: builds their units.
 //!
 //! These functions form a cycle of their own and are not a further mode of `run`, because a run
-//! never requests the unit of a child, by the law of the keyword type.
+//! never requests the unit of a child, by the law of the keyword type. A level takes little stack:
+//! units are boxed, and steps that ask nothing are not inlined.
 ghost use Rattle.schema_node.specs.Premises.{ChildMayEvaluate, EntriesMayEvaluate, EntryMayEvaluate, KeywordMayEvaluate, NodeMayEvaluate};
 ghost use Rattle.schema_node.specs.RunAnswers.{UnitOfChild, UnitOfEdge, UnitOfNode, UnitOfPlan, UnitsOfEntries, UnitsOfEntry};
 ghost use Rattle.schema_node.specs.RunAnswers.{UnitsOfKeyword};
 
+use crate::node::boxed::{
+    accepting_unit, children_of, dropped_units, entries_unit, no_units, placed, refusing_unit,
+    unasked_unit, units_of_keyword, units_of_reference,
+};
 use crate::node::turns::keyword_answer;
 use schema_node_table::{Entry, EntryForm, NodeForm};
 use schema_reports::{ChildList, EvaluationNode, OutOfMemory, SharedLocation};
 use schema_run_context::{EvaluationPath, ValidationContext, child_edge};
-use schema_run_steps::{
-    Engine, EntryUnits, GuardedPair, NamedKeyword, Question, UnitsInOrder, accepting_unit,
-    entries_unit, one_below, refusing_unit, unasked_unit, units_of_keyword, units_of_reference,
-};
+use schema_run_steps::{Engine, EntryUnits, GuardedPair, NamedKeyword, Question, one_below};
 use schema_traits::{Below, Edge, Matcher, SchemaNode, Validate};
 
 // Returns the unit of a node at a place. Counts the node.
@@ -23,7 +25,7 @@ pub(crate) fn evaluate_node<'i, K: Validate, M: Matcher>(
     node: SchemaNode,
     question: &Question<'_, 'i>,
     context: &mut ValidationContext<'i>,
-) -> Result<EvaluationNode, OutOfMemory>
+) -> Result<Box<EvaluationNode>, OutOfMemory>
     requires { NodeMayEvaluate K.Validate M.Matcher.own engine.now question.now context.old node.0 }
     ensures { UnitOfNode K.Validate M.Matcher.own engine.now question.now node.0 context.old context.new result }
 {
@@ -38,7 +40,7 @@ fn evaluate_plan<'i, K: Validate, M: Matcher>(
     node: SchemaNode,
     question: &Question<'_, 'i>,
     context: &mut ValidationContext<'i>,
-) -> Result<EvaluationNode, OutOfMemory>
+) -> Result<Box<EvaluationNode>, OutOfMemory>
     requires { NodeMayEvaluate K.Validate M.Matcher.own engine.now question.now context.old node.0 }
     ensures { UnitOfPlan K.Validate M.Matcher.own engine.now question.now node.0 context.old context.new result }
 {
@@ -85,12 +87,17 @@ fn evaluate_entries<'i, K: Validate, M: Matcher>(
     requires { EntriesMayEvaluate K.Validate M.Matcher.own engine.now question.now context.old node.0 entries.now pointer.now }
     ensures { UnitsOfEntries K.Validate M.Matcher.own engine.now question.now node.0 entries.now context.old context.new result }
 {
-    let mut units = UnitsInOrder::new(engine.alloc, entries.len())?;
+    let mut units = no_units(engine.alloc, entries.len())?;
     for entry in entries {
-        let given = evaluate_entry(engine, node, entry, question, pointer, context)?;
-        units.place(entry.priority, given)?;
+        match evaluate_entry(engine, node, entry, question, pointer, context) {
+            Ok(given) => units = placed(units, entry.priority, given)?,
+            Err(refused) => {
+                dropped_units(units);
+                return Err(refused);
+            }
+        }
     }
-    units.into_children()
+    children_of(units)
 }
 
 #[cycle(run)]
@@ -101,7 +108,7 @@ fn evaluate_entry<'i, K: Validate, M: Matcher>(
     question: &Question<'_, 'i>,
     pointer: &SharedLocation,
     context: &mut ValidationContext<'i>,
-) -> Result<EntryUnits, OutOfMemory>
+) -> Result<Box<EntryUnits>, OutOfMemory>
     requires { EntryMayEvaluate K.Validate M.Matcher.own engine.now question.now context.old node.0 entry.now pointer.now }
     ensures { UnitsOfEntry K.Validate M.Matcher.own engine.now question.now node.0 entry.now context.old context.new result }
 {
@@ -134,7 +141,7 @@ fn evaluate_keyword<'i, K: Validate, M: Matcher>(
     question: &Question<'_, 'i>,
     pointer: &SharedLocation,
     context: &mut ValidationContext<'i>,
-) -> Result<EntryUnits, OutOfMemory>
+) -> Result<Box<EntryUnits>, OutOfMemory>
     requires { KeywordMayEvaluate K.Validate M.Matcher.own engine.now question.now context.old node.0 keyword.now pointer.now }
     ensures { UnitsOfKeyword K.Validate M.Matcher.own engine.now question.now node.0 keyword.now context.old context.new result }
 {
@@ -161,7 +168,7 @@ pub(crate) fn evaluate_child<'i, K: Validate, M: Matcher>(
     below: Below<'_>,
     question: &Question<'_, 'i>,
     context: &mut ValidationContext<'i>,
-) -> Result<EvaluationNode, OutOfMemory>
+) -> Result<Box<EvaluationNode>, OutOfMemory>
     requires { ChildMayEvaluate K.Validate M.Matcher.own engine.now question.now context.old node.0 children.now below }
     ensures { UnitOfChild K.Validate M.Matcher.own engine.now question.now node.0 children.now child below.entry context.old context.new
         result }
@@ -191,7 +198,7 @@ fn evaluate_edge<'i, K: Validate, M: Matcher>(
     edge: &Edge,
     question: &Question<'_, 'i>,
     context: &mut ValidationContext<'i>,
-) -> Result<EvaluationNode, OutOfMemory>
+) -> Result<Box<EvaluationNode>, OutOfMemory>
     requires { NodeMayEvaluate K.Validate M.Matcher.own engine.now question.now context.old edge.now.node.0 }
     ensures { UnitOfEdge K.Validate M.Matcher.own engine.now question.now edge.now context.old context.new result }
 {

@@ -98,13 +98,26 @@ fn run_entries<'i, K: Validate, M: Matcher>(
 {
     let mut found = accepted(engine.alloc, question.mode);
     for entry in entries {
-        let more = run_entry(engine, node, entry, question, context)?;
-        found = joined(found, more)?;
-        if is_settled(&found) {
-            return Ok(found);
+        match run_entry(engine, node, entry, question, context) {
+            Ok(more) => {
+                found = joined(found, more)?;
+                if is_settled(&found) {
+                    return Ok(found);
+                }
+            }
+            Err(refused) => {
+                dropped_reply(found);
+                return Err(refused);
+            }
         }
     }
     Ok(found)
+}
+
+// Drops a reply. Not inlined, so that a level does not hold room for the errors that it drops.
+#[inline(never)]
+fn dropped_reply(reply: Reply<'_>) {
+    drop(reply);
 }
 
 // Returns the reply of an entry. A leaf is checked for its verdict first, and for errors only if it
@@ -135,6 +148,7 @@ fn run_entry<'i, K: Validate, M: Matcher>(
 }
 
 #[cycle(run)]
+#[inline(always)]
 fn run_form<'i, K: Validate, M: Matcher>(
     engine: &Engine<'_, K, M>,
     node: SchemaNode,
@@ -266,8 +280,9 @@ fn is_asked_first<K, M: Matcher>(
 
 // Returns the reply of the node that an edge leads to. The node is checked for its verdict first,
 // and run for errors only if it is invalid. No match can stay unfinished, so the verdict meets the
-// same matches as the errors.
+// same matches as the errors. Not inlined, so that other children do not pay for its stack frame.
 #[cycle(run)]
+#[inline(never)]
 fn run_refused<'i, K: Validate, M: Matcher>(
     engine: &Engine<'_, K, M>,
     edge: &Edge,

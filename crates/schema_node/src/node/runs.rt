@@ -191,6 +191,7 @@ impl<K: Validate> RunNodes<K> for Nodes<K> {
             path: &path,
             mode: Mode::Evaluate,
         };
-        evaluate_node(&engine, node, &question, context)
+        let unit = evaluate_node(&engine, node, &question, context)?;
+        Ok(Box::into_inner(unit))
     }
 }

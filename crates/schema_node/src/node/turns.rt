@@ -2,18 +2,25 @@
 //!
 //! A child that is requested in the mode for units is evaluated, and any other child is run.
 //!
-//! Three loops take turns. LLVM does not inline a keyword's turn that two places call, so turns
-//! that are taken often are marked `#[inline(always)]`.
-ghost use Rattle.schema_node.specs.Premises.{ChildMayAsk, ChildMayEvaluate, KeywordMayAsk, TurnsMayAsk};
-ghost use Rattle.schema_node.specs.RunAnswers.{AnswerOfChild, AnswerOfKeyword, TurnsOfKeyword};
+//! A keyword's turn is not inlined here, so that a level of a run takes little stack.
+ghost use Rattle.std.specs.Prelude.{◌≡◌, All, Bool, IfOk, OnOk};
+ghost use Rattle.serde_json.specs.Data.{Data};
+ghost use Rattle.schema_reports.specs.InstanceViews.{subject_of};
+ghost use Rattle.schema_reports.specs.ReportViews.{BorrowsItsPlace};
+ghost use Rattle.schema_traits.specs.FaultViews.{PassesBorrowed, errors_in, faults_in};
+ghost use Rattle.schema_traits.specs.KeywordViews.{Tells, answer_of, below_of, fresh, mode_of, reply_of, turn_of};
+ghost use Rattle.theory_runs.specs.Answered.{the_child};
+ghost use Rattle.schema_node.specs.Premises.{ChildMayAsk, ChildMayEvaluate, KeywordMayAsk, TurnsMayAsk, VerdictIsAsked};
+ghost use Rattle.schema_node.specs.RunAnswers.{AnswerOfChild, AnswerOfKeyword, TurnsOfKeyword, VerdictIsTold};
 
 use crate::node::evaluate::evaluate_child;
 use crate::node::run::run_child;
-use crate::node::verdict::verdict_child;
-use schema_reports::OutOfMemory;
+use crate::node::verdict;
+use schema_reports::{Instance, OutOfMemory};
 use schema_run_context::ValidationContext;
-use schema_run_steps::{Engine, NamedKeyword, Question, begun, step_match};
+use schema_run_steps::{Engine, NamedKeyword, Question, begun, dropped, step_match};
 use schema_traits::{Answer, Below, Edge, Matcher, Mode, Reply, SchemaNode, Step, Validate};
+use std::alloc::Global;
 
 // Returns the answer of a keyword's run. The run begins without marks. Those of the enclosing run
 // are set aside until it has ended.
@@ -28,22 +35,75 @@ pub(crate) fn keyword_answer<'i, K: Validate, M: Matcher>(
     requires { KeywordMayAsk K.Validate M.Matcher.own engine.now question.now context.old node.0 keyword.now }
     ensures { AnswerOfKeyword K.Validate M.Matcher.own engine.now question.now node.0 keyword.now context.old context.new result }
 {
-    let mut run = keyword
-        .keyword
-        .begin(engine.alloc, question.instance, question.mode)?;
+    let mut run = begin(
+        engine.alloc,
+        keyword.keyword,
+        question.instance,
+        question.mode,
+    )?;
     let mut answer = begun(engine.alloc, question.mode)?;
     let aside = context.set_aside(engine.alloc);
-    run_turns(
+    let turned = run_turns(
         engine,
         node,
         keyword,
         question,
-        &mut run,
+        &mut *run,
         &mut answer,
         context,
-    )?;
+    );
+    end(run);
     context.put_back(aside);
-    Ok(answer)
+    match turned {
+        Ok(_) => Ok(answer),
+        Err(refused) => {
+            dropped(answer);
+            Err(refused)
+        }
+    }
+}
+
+// Begins a run. It is boxed, and this is not inlined, so that a level takes little stack.
+#[inline(never)]
+fn begin<K: Validate>(
+    alloc: Global,
+    keyword: &K,
+    instance: Instance<'_>,
+    mode: Mode,
+) -> Result<Box<K::Run>, OutOfMemory>
+    ensures begins { IfOk result (λ run. (texts : Bool)
+        → (K.words texts).begin (K.shape keyword.now) (subject_of instance.entry) (mode_of mode) ≡ (run.value, fresh (mode_of mode))) }
+{
+    let run = keyword.begin(alloc, instance, mode)?;
+    Ok(Box::new(alloc, run)?)
+}
+
+// Ends a run. Not inlined, for the same reason.
+#[inline(never)]
+fn end<R: Drop>(run: Box<R>) {
+    drop(run);
+}
+
+// Takes a turn of a run. Not inlined, for the same reason.
+#[inline(never)]
+fn turn<'s, 'i: 's, K: Validate>(
+    alloc: Global,
+    keyword: &'s K,
+    run: &mut K::Run,
+    instance: Instance<'i>,
+    reply: Reply<'i>,
+    answer: &mut Answer<'i>,
+) -> Result<Step<'s>, OutOfMemory>
+    ensures turns { OnOk result ((texts : Bool) → Tells texts (K.is_whole (K.shape keyword.now)) (subject_of instance.entry)
+        → (K.words texts).turn (K.shape keyword.now) (subject_of instance.entry) (run.old, answer_of texts answer.old)
+        (reply_of texts reply.entry) ≡ (run.new, answer_of texts answer.new)) }
+    ensures steps { IfOk result (λ step. (texts : Bool) → Tells texts (K.is_whole (K.shape keyword.now)) (subject_of instance.entry)
+        → (K.words texts).step (K.shape keyword.now) (subject_of instance.entry) (run.old, answer_of texts answer.old)
+        (reply_of texts reply.entry) ≡ turn_of step) }
+    ensures borrows { OnOk result ((root : Data) → All (BorrowsItsPlace root) (errors_in reply.entry)
+        → All (PassesBorrowed root) (faults_in answer.old) → All (PassesBorrowed root) (faults_in answer.new)) }
+{
+    keyword.turn(alloc, run, instance, reply, answer)
 }
 
 // Takes the turns of a keyword's run that has begun, which complete its answer.
@@ -67,9 +127,14 @@ fn run_turns<'i, K: Validate, M: Matcher>(
     let mut refusals = 1;
     'turns: loop {
         refusals = refusals_after(refusals, &reply);
-        let step = keyword
-            .keyword
-            .turn(engine.alloc, run, question.instance, reply, answer)?;
+        let step = turn(
+            engine.alloc,
+            keyword.keyword,
+            run,
+            question.instance,
+            reply,
+            answer,
+        )?;
         match step {
             Step::Ask(child, below, wanted) => {
                 let asked = Question {
@@ -169,6 +234,26 @@ fn ask_child<'i, K: Validate, M: Matcher>(
     }
 }
 
+// Returns the verdict of a keyword's child. Not inlined, so that a level of a run does not hold room
+// for one of a verdict.
+#[inline(never)]
+fn verdict_child<'i, K: Validate, M: Matcher>(
+    engine: &Engine<'_, K, M>,
+    node: SchemaNode,
+    children: &[Option<Edge>],
+    child: usize,
+    below: Below<'_>,
+    question: &Question<'_, 'i>,
+    context: &mut ValidationContext<'i>,
+) -> Result<bool, OutOfMemory>
+    requires { VerdictIsAsked K.Validate M.Matcher.own engine.now question.now (the_child node.0 children.now child (below_of below))
+        context.old }
+    ensures { VerdictIsTold K.Validate M.Matcher.own engine.now question.now (the_child node.0 children.now child (below_of below.entry))
+        context.old context.new result }
+{
+    verdict::verdict_child(engine, node, children, child, below, question, context)
+}
+
 // Returns the unit of a keyword's child as a reply. Not inlined, so that the turns of a verdict do
 // not pay for its stack frame.
 #[cycle(run)]
@@ -187,5 +272,5 @@ fn ask_unit<'i, K: Validate, M: Matcher>(
         result }
 {
     let unit = evaluate_child(engine, node, children, child, below, question, context)?;
-    Ok(Reply::Unit(Box::new(engine.alloc, unit)?))
+    Ok(Reply::Unit(unit))
 }

@@ -57,7 +57,8 @@ use Rattle.theory_runs.proofs.NodeUnits.{entered_meets, finds_moved, finds_units
 use Rattle.theory_runs.proofs.UnitsAsked.{answer_is, child_valid, told_is}
 use Rattle.schema_run_context.specs.Works.{Spends}
 use Rattle.theory_runs.proofs.FreeEdges.{free_meets}
-use Rattle.theory_runs.proofs.Counted.{carried, given, may_evaluate, may_run, replied}
+use Rattle.theory_runs.proofs.Counted.{carried, may_evaluate, may_run, replied}
+use Rattle.schema_node.proofs.Counted.{given_boxed}
 use Rattle.theory_runs.proofs.Spending.{asks_spends, spends_between, spends_none, spends_on, spends_same}
 use Rattle.theory_runs.proofs.Children.{may_below, needs_below, replied_below}
 use Rattle.theory_runs.proofs.Finishing.{edge_accepts, meets_after, verdict_meets}
@@ -321,13 +322,13 @@ run::run_entries-run_entry-requires g t c =
 
 pub run::run_entries-loop-entry-preserved : goal.run::run_entries-loop-entry-preserved
 run::run_entries-loop-entry-preserved g t c = record {
-  stays = λ layout laid right. c.in_ok-more.ensures.stays layout laid (c.loop-entry.invariant.stays layout laid right);
-  root = c.in_ok-more.ensures.keeps.root ∙ c.loop-entry.invariant.root;
-  kept = c.in_ok-more.ensures.keeps.in_progress ∙ c.loop-entry.invariant.kept;
-  assumes = c.in_ok-more.ensures.keeps.assumptions ∙ c.loop-entry.invariant.assumes;
-  marking = c.in_ok-more.ensures.keeps.marking ∙ c.loop-entry.invariant.marking;
-  counted = no_fewer c.args.context.now.visits c.loop-entry.context.visits c.run_entry.new.context.visits c.loop-entry.invariant.counted c.in_ok-more.ensures.counts;
-  worked = spends_on _ _ _ c.loop-entry.invariant.worked c.in_ok-more.ensures.works;
+  stays = λ layout laid right. c.in-Ok.ensures.stays layout laid (c.loop-entry.invariant.stays layout laid right);
+  root = c.in-Ok.ensures.keeps.root ∙ c.loop-entry.invariant.root;
+  kept = c.in-Ok.ensures.keeps.in_progress ∙ c.loop-entry.invariant.kept;
+  assumes = c.in-Ok.ensures.keeps.assumptions ∙ c.loop-entry.invariant.assumes;
+  marking = c.in-Ok.ensures.keeps.marking ∙ c.loop-entry.invariant.marking;
+  counted = no_fewer c.args.context.now.visits c.loop-entry.context.visits c.run_entry.new.context.visits c.loop-entry.invariant.counted c.in-Ok.ensures.counts;
+  worked = spends_on _ _ _ c.loop-entry.invariant.worked c.in-Ok.ensures.works;
   unsettled = λ texts. sym (c.is_settled.ensures.settled texts) ∙ c.if-is_settled.false;
   met = λ texts root depth reads l.
       let ns = numbered g.K.Validate.shape c.args.engine.now.nodes.now in
@@ -337,36 +338,36 @@ run::run_entries-loop-entry-preserved g t c = record {
       let mode = mode_of c.args.question.now.mode in
       let part = shaped_part g.K.Validate.shape (entry_of c.entry-item.result) in
       let looked = λ (es : List (Entry g.row.K.Denot)). parts_looked g.K.Validate.words ns w texts root depth c.args.node.0 (path_of c.args.question.now.path.now) p busy (map (shaped_part g.K.Validate.shape) (map entry_of es)) in
-      let here = moved (λ es as'. EntryMeets g.K.Validate.words g.K.Validate.is_whole ns (length c.args.engine.now.nodes.now) (settling (g.M.Matcher.matching c.args.engine.now.matcher.now) as') mode (path_of c.args.question.now.path.now) p (busy_at p es) (subject_of c.args.question.now.instance) c.loop-entry.context.remembered c.run_entry.new.context.remembered c.args.node.0 part) c.loop-entry.invariant.kept c.loop-entry.invariant.assumes c.in_ok-more.ensures.meets texts root depth reads l in
-      let says = (rw (c.loop-entry.invariant.kept, c.loop-entry.invariant.assumes) at c.in_ok-more.ensures.says) (reading w texts root depth) reads l in
+      let here = moved (λ es as'. EntryMeets g.K.Validate.words g.K.Validate.is_whole ns (length c.args.engine.now.nodes.now) (settling (g.M.Matcher.matching c.args.engine.now.matcher.now) as') mode (path_of c.args.question.now.path.now) p (busy_at p es) (subject_of c.args.question.now.instance) c.loop-entry.context.remembered c.run_entry.new.context.remembered c.args.node.0 part) c.loop-entry.invariant.kept c.loop-entry.invariant.assumes c.in-Ok.ensures.meets texts root depth reads l in
+      let says = (rw (c.loop-entry.invariant.kept, c.loop-entry.invariant.assumes) at c.in-Ok.ensures.says) (reading w texts root depth) reads l in
       let so_far = c.loop-entry.invariant.so_far (reading w texts root depth) reads l in
       let met = c.loop-entry.invariant.met texts root depth reads l in
       let split = ap (λ es. plan_met mode (looked es)) (drop_at c.args.entries.now c.loop-entry.entry-index c.entry-item.result c.loop-entry-test.true c.entry-item.is) in
       let agrees = agrees_says g.K.Validate.words ns (λ texts m s completion matcher a h. (g.met.K.Validate.function_laws texts m).agree s (matching matcher completion) a h) (reading w texts root depth) c.args.node.0 (path_of c.args.question.now.path.now) p busy part.name part.form in
-      let last = stops_at g.K.Validate.words ns w texts root depth mode c.args.node.0 (path_of c.args.question.now.path.now) p busy part c.loop-entry.found c.in_ok-more.more c.in_ok-found.found so_far.0 _ agrees so_far.1 says c.in_ok-found.ensures.both (c.loop-entry.invariant.unsettled texts) (sym (c.is_settled.ensures.settled texts) ∙ c.if-is_settled.false) in
+      let last = stops_at g.K.Validate.words ns w texts root depth mode c.args.node.0 (path_of c.args.question.now.path.now) p busy part c.loop-entry.found c.in-Ok.more c.in_ok-found.found so_far.0 _ agrees so_far.1 says c.in_ok-found.ensures.both (c.loop-entry.invariant.unsettled texts) (sym (c.is_settled.ensures.settled texts) ∙ c.if-is_settled.false) in
       next_met w.matcher mode (part_looked g.K.Validate.words ns w texts root depth c.args.node.0 (path_of c.args.question.now.path.now) p busy part) (looked (drop (c.loop-entry.entry-index + 1) c.args.entries.now)) _ _ met.0 _ _ _ met.1 here met.2 split last;
   so_far = λ x reads l.
       let ns = numbered g.K.Validate.shape c.args.engine.now.nodes.now in
       let p = steps_to c.args.question.now.place.now in
       let parts = λ (es : List (Entry g.row.K.Denot)). parts_say g.K.Validate.words ns x c.args.node.0 (path_of c.args.question.now.path.now) p (busy_at p c.args.context.now.in_progress) (map (shaped_part g.K.Validate.shape) (map entry_of es)) in
-      let says = (rw (c.loop-entry.invariant.kept, c.loop-entry.invariant.assumes) at c.in_ok-more.ensures.says) x reads l in
+      let says = (rw (c.loop-entry.invariant.kept, c.loop-entry.invariant.assumes) at c.in-Ok.ensures.says) x reads l in
       let split = ap parts (drop_at c.args.entries.now c.loop-entry.entry-index c.entry-item.result c.loop-entry-test.true c.entry-item.is) in
-      one_entry g.K.Validate.words g.K.Validate.is_whole ns (length c.args.engine.now.nodes.now) (settling (g.M.Matcher.matching c.args.engine.now.matcher.now) c.args.context.now.remembered.assumptions) (mode_of c.args.question.now.mode) x c.loop-entry.found c.in_ok-more.more c.in_ok-found.found _ _ (parts (drop (c.loop-entry.entry-index + 1) c.args.entries.now)) _ split
+      one_entry g.K.Validate.words g.K.Validate.is_whole ns (length c.args.engine.now.nodes.now) (settling (g.M.Matcher.matching c.args.engine.now.matcher.now) c.args.context.now.remembered.assumptions) (mode_of c.args.question.now.mode) x c.loop-entry.found c.in-Ok.more c.in_ok-found.found _ _ (parts (drop (c.loop-entry.entry-index + 1) c.args.entries.now)) _ split
       c.in_ok-found.ensures.both c.in_ok-found.ensures.borrows says (c.loop-entry.invariant.so_far x reads l);
 }
 
 pub run::run_entries-returns-then-is_settled : goal.run::run_entries-returns-then-is_settled
 run::run_entries-returns-then-is_settled g t c = record {
   keeps = first_of (search rules, grind (arith, common_steps));
-  counts = no_fewer c.args.context.now.visits c.loop-entry.context.visits c.run_entry.new.context.visits c.loop-entry.invariant.counted c.in_ok-more.ensures.counts;
-  works = spends_on _ _ _ c.loop-entry.invariant.worked c.in_ok-more.ensures.works;
+  counts = no_fewer c.args.context.now.visits c.loop-entry.context.visits c.run_entry.new.context.visits c.loop-entry.invariant.counted c.in-Ok.ensures.counts;
+  works = spends_on _ _ _ c.loop-entry.invariant.worked c.in-Ok.ensures.works;
   says = λ x reads l.
       let ns = numbered g.K.Validate.shape c.args.engine.now.nodes.now in
       let p = steps_to c.args.question.now.place.now in
       let parts = λ (es : List (Entry g.row.K.Denot)). parts_say g.K.Validate.words ns x c.args.node.0 (path_of c.args.question.now.path.now) p (busy_at p c.args.context.now.in_progress) (map (shaped_part g.K.Validate.shape) (map entry_of es)) in
-      let says = (rw (c.loop-entry.invariant.kept, c.loop-entry.invariant.assumes) at c.in_ok-more.ensures.says) x reads l in
+      let says = (rw (c.loop-entry.invariant.kept, c.loop-entry.invariant.assumes) at c.in-Ok.ensures.says) x reads l in
       let split = ap parts (drop_at c.args.entries.now c.loop-entry.entry-index c.entry-item.result c.loop-entry-test.true c.entry-item.is) in
-      let next = one_entry g.K.Validate.words g.K.Validate.is_whole ns (length c.args.engine.now.nodes.now) (settling (g.M.Matcher.matching c.args.engine.now.matcher.now) c.args.context.now.remembered.assumptions) (mode_of c.args.question.now.mode) x c.loop-entry.found c.in_ok-more.more c.in_ok-found.found _ _ (parts (drop (c.loop-entry.entry-index + 1) c.args.entries.now)) _ split
+      let next = one_entry g.K.Validate.words g.K.Validate.is_whole ns (length c.args.engine.now.nodes.now) (settling (g.M.Matcher.matching c.args.engine.now.matcher.now) c.args.context.now.remembered.assumptions) (mode_of c.args.question.now.mode) x c.loop-entry.found c.in-Ok.more c.in_ok-found.found _ _ (parts (drop (c.loop-entry.entry-index + 1) c.args.entries.now)) _ split
       c.in_ok-found.ensures.both c.in_ok-found.ensures.borrows says (c.loop-entry.invariant.so_far x reads l) in
       settled_entries g.K.Validate.words g.K.Validate.is_whole ns (length c.args.engine.now.nodes.now) (settling (g.M.Matcher.matching c.args.engine.now.matcher.now) c.args.context.now.remembered.assumptions) (mode_of c.args.question.now.mode) x c.in_ok-found.found _ _ (sym (c.is_settled.ensures.settled x.texts) ∙ c.if-is_settled.true) next;
   meets = λ texts root depth reads l.
@@ -377,15 +378,15 @@ run::run_entries-returns-then-is_settled g t c = record {
       let mode = mode_of c.args.question.now.mode in
       let part = shaped_part g.K.Validate.shape (entry_of c.entry-item.result) in
       let looked = λ (es : List (Entry g.row.K.Denot)). parts_looked g.K.Validate.words ns w texts root depth c.args.node.0 (path_of c.args.question.now.path.now) p busy (map (shaped_part g.K.Validate.shape) (map entry_of es)) in
-      let here = moved (λ es as'. EntryMeets g.K.Validate.words g.K.Validate.is_whole ns (length c.args.engine.now.nodes.now) (settling (g.M.Matcher.matching c.args.engine.now.matcher.now) as') mode (path_of c.args.question.now.path.now) p (busy_at p es) (subject_of c.args.question.now.instance) c.loop-entry.context.remembered c.run_entry.new.context.remembered c.args.node.0 part) c.loop-entry.invariant.kept c.loop-entry.invariant.assumes c.in_ok-more.ensures.meets texts root depth reads l in
-      let says = (rw (c.loop-entry.invariant.kept, c.loop-entry.invariant.assumes) at c.in_ok-more.ensures.says) (reading w texts root depth) reads l in
+      let here = moved (λ es as'. EntryMeets g.K.Validate.words g.K.Validate.is_whole ns (length c.args.engine.now.nodes.now) (settling (g.M.Matcher.matching c.args.engine.now.matcher.now) as') mode (path_of c.args.question.now.path.now) p (busy_at p es) (subject_of c.args.question.now.instance) c.loop-entry.context.remembered c.run_entry.new.context.remembered c.args.node.0 part) c.loop-entry.invariant.kept c.loop-entry.invariant.assumes c.in-Ok.ensures.meets texts root depth reads l in
+      let says = (rw (c.loop-entry.invariant.kept, c.loop-entry.invariant.assumes) at c.in-Ok.ensures.says) (reading w texts root depth) reads l in
       let so_far = c.loop-entry.invariant.so_far (reading w texts root depth) reads l in
       let met = c.loop-entry.invariant.met texts root depth reads l in
       let split = ap (λ es. plan_met mode (looked es)) (drop_at c.args.entries.now c.loop-entry.entry-index c.entry-item.result c.loop-entry-test.true c.entry-item.is) in
       let agrees = agrees_says g.K.Validate.words ns (λ texts m s completion matcher a h. (g.met.K.Validate.function_laws texts m).agree s (matching matcher completion) a h) (reading w texts root depth) c.args.node.0 (path_of c.args.question.now.path.now) p busy part.name part.form in
-      let last = stops_at g.K.Validate.words ns w texts root depth mode c.args.node.0 (path_of c.args.question.now.path.now) p busy part c.loop-entry.found c.in_ok-more.more c.in_ok-found.found so_far.0 _ agrees so_far.1 says c.in_ok-found.ensures.both (c.loop-entry.invariant.unsettled texts) (sym (c.is_settled.ensures.settled texts) ∙ c.if-is_settled.true) in
+      let last = stops_at g.K.Validate.words ns w texts root depth mode c.args.node.0 (path_of c.args.question.now.path.now) p busy part c.loop-entry.found c.in-Ok.more c.in_ok-found.found so_far.0 _ agrees so_far.1 says c.in_ok-found.ensures.both (c.loop-entry.invariant.unsettled texts) (sym (c.is_settled.ensures.settled texts) ∙ c.if-is_settled.true) in
       last_met w.matcher mode (part_looked g.K.Validate.words ns w texts root depth c.args.node.0 (path_of c.args.question.now.path.now) p busy part) (looked (drop (c.loop-entry.entry-index + 1) c.args.entries.now)) _ _ met.0 _ _ _ met.1 here met.2 split last;
-  stays = λ layout laid right. c.in_ok-more.ensures.stays layout laid (c.loop-entry.invariant.stays layout laid right);
+  stays = λ layout laid right. c.in-Ok.ensures.stays layout laid (c.loop-entry.invariant.stays layout laid right);
 }
 
 pub run::run_entry-run_form-requires : goal.run::run_entry-run_form-requires
@@ -452,23 +453,23 @@ turns::keyword_answer-run_turns-requires g t c =
     let l = ap (λ es. left ns (length c.args.engine.now.nodes.now) c.args.node.0 s (busy_at p es)) kept in
     λ κs h. (lower_same _ _ t 4 0 l c.decreases, (h.0, (h.1.0, (h.1.1.0, (h.1.1.1, record { may = record { known = c.requires.may.known; ranked = c.requires.may.ranked; above = subst (NoDeeper p) (sym kept) c.requires.may.above; stands = stands_on c.args.context.now.root _ (asking c.args.question.now) c.set_aside-aside.ensures.frame.root c.requires.may.stands; goes_on = (c.requires.may.goes_on.0, c.requires.may.goes_on.1, right_same (setting g.K.Validate.words g.K.Validate.is_whole g.K.Validate.shape g.M.Matcher.matching c.args.engine.now) c.requires.may.goes_on.0 c.args.context.now c.set_aside-aside.new.self c.set_aside-aside.ensures.frame.remembered c.set_aside-aside.ensures.frame.verdicts c.requires.may.goes_on.2) }; carries = carries_on c.args.context.now.root _ c.args.question.now.place.now c.set_aside-aside.ensures.frame.root c.requires.carries; form = c.requires.form; begun = begun; no_faults = c.in_ok-answer.ensures.no_faults; no_marks = c.set_aside-aside.ensures.none })))))
 
-pub turns::keyword_answer-returns : goal.turns::keyword_answer-returns
-turns::keyword_answer-returns g t c = record {
+pub turns::keyword_answer-returns-in-Ok : goal.turns::keyword_answer-returns-in-Ok
+turns::keyword_answer-returns-in-Ok g t c = record {
   keeps = first_of (search rules, grind (arith, common_steps));
-  counts = rw (c.set_aside-aside.ensures.frame.visits, ← c.put_back.ensures.frame.visits) at c.in_ok-run_turns.ensures.counts;
-  works = rw (c.set_aside-aside.ensures.frame.work, ← c.put_back.ensures.frame.work) at c.in_ok-run_turns.ensures.works;
-  quiet = λ none. c.put_back.ensures.frame.visits ∙ c.in_ok-run_turns.ensures.quiet none ∙ c.set_aside-aside.ensures.frame.visits;
+  counts = rw (c.set_aside-aside.ensures.frame.visits, ← c.put_back.ensures.frame.visits) at (rw c.in-Ok.is at c.run_turns-turned.ensures.counts);
+  works = rw (c.set_aside-aside.ensures.frame.work, ← c.put_back.ensures.frame.work) at (rw c.in-Ok.is at c.run_turns-turned.ensures.works);
+  quiet = λ none. c.put_back.ensures.frame.visits ∙ (rw c.in-Ok.is at c.run_turns-turned.ensures.quiet) none ∙ c.set_aside-aside.ensures.frame.visits;
   right =
       let set = setting g.K.Validate.words g.K.Validate.is_whole g.K.Validate.shape g.M.Matcher.matching c.args.engine.now in
       let m = g.K.Validate.shape c.args.keyword.now.keyword.now in
       let es = map (option_map edge_of) c.args.keyword.now.children.now in
-      finds_moved set (asking c.args.question.now) c.args.context.now c.set_aside-aside.new.self c.set_aside-aside.ensures.frame.in_progress (ap (λ (r : Remembered). r.assumptions) c.set_aside-aside.ensures.frame.remembered) c.args.node.0 es m c.run_turns.new.answer c.in_ok-run_turns.ensures.right;
+      finds_moved set (asking c.args.question.now) c.args.context.now c.set_aside-aside.new.self c.set_aside-aside.ensures.frame.in_progress (ap (λ (r : Remembered). r.assumptions) c.set_aside-aside.ensures.frame.remembered) c.args.node.0 es m c.run_turns-turned.new.answer (rw c.in-Ok.is at c.run_turns-turned.ensures.right);
   passes = first_of (search rules, grind (arith, common_steps));
-  meets = rw (c.set_aside-aside.ensures.frame.in_progress, c.set_aside-aside.ensures.frame.remembered, ← c.put_back.ensures.frame.remembered) at c.in_ok-run_turns.ensures.meets;
+  meets = rw (c.set_aside-aside.ensures.frame.in_progress, c.set_aside-aside.ensures.frame.remembered, ← c.put_back.ensures.frame.remembered) at (rw c.in-Ok.is at c.run_turns-turned.ensures.meets);
   stays = λ layout laid right.
       let set = setting g.K.Validate.words g.K.Validate.is_whole g.K.Validate.shape g.M.Matcher.matching c.args.engine.now in
       let right1 = right_same set layout c.args.context.now c.set_aside-aside.new.self c.set_aside-aside.ensures.frame.remembered c.set_aside-aside.ensures.frame.verdicts right in
-      right_same set layout c.run_turns.new.context c.put_back.new.self c.put_back.ensures.frame.remembered c.put_back.ensures.frame.verdicts (c.in_ok-run_turns.ensures.stays layout laid right1);
+      right_same set layout c.run_turns-turned.new.context c.put_back.new.self c.put_back.ensures.frame.remembered c.put_back.ensures.frame.verdicts ((rw c.in-Ok.is at c.run_turns-turned.ensures.stays) layout laid right1);
 }
 
 pub run::run_keyword-returns : goal.run::run_keyword-returns
@@ -987,7 +988,7 @@ evaluate::evaluate_child-returns-in-None-one_below g t c = record {
       let k = c.requires.children c.args.child e (sym c.in-Some.ensures.edge) in
       let l = falls_here g.K.Validate.words g.K.Validate.is_whole ns (length c.args.engine.now.nodes.now) w c.requires.may.ranked c.args.node.0 s busy e c.requires.may.known k in
       let asked : Question = record { child = c.args.child; below = below_of c.args.below } in
-      if_ok_mono c.evaluate_edge.result _ _ (λ u gives. gives_here set q c.args.context.now c.args.node.0 (map (option_map edge_of) c.args.children.now) asked u e (sym c.in-Some.ensures.edge) c.in-None-one_below.ensures.below l gives) c.evaluate_edge.ensures.says;
+      if_ok_mono c.evaluate_edge.result _ _ (λ u gives. gives_here set q c.args.context.now c.args.node.0 (map (option_map edge_of) c.args.children.now) asked u.value e (sym c.in-Some.ensures.edge) c.in-None-one_below.ensures.below l gives) c.evaluate_edge.ensures.says;
   meets =
       let ns = numbered g.K.Validate.shape c.args.engine.now.nodes.now in
       let w = settling (g.M.Matcher.matching c.args.engine.now.matcher.now) c.args.context.now.remembered.assumptions in
@@ -1025,7 +1026,7 @@ evaluate::evaluate_child-returns-in-Some-one_below g t c = record {
       let l = falls_below g.K.Validate.words g.K.Validate.is_whole ns (length c.args.engine.now.nodes.now) w c.requires.may.ranked c.args.node.0 s inner step busy e c.requires.may.known k c.in-Some-one_below.ensures.below.1 in
       let asked : Question = record { child = c.args.child; below = below_of c.args.below } in
       let lower : Asking = record { subject = inner; place = steps_to c.below-lower.result; path = path_of c.args.question.now.path.now; mode = mode_of c.args.question.now.mode } in
-      if_ok_mono c.evaluate_edge-in-Some-one_below.result _ _ (λ u gives. gives_below set q c.args.context.now c.args.node.0 (map (option_map edge_of) c.args.children.now) asked u e step lower (sym c.in-Some.ensures.edge) c.in-Some-one_below.ensures.below.0 c.below-lower.ensures.below refl c.in-Some-one_below.ensures.below.1 none l gives) c.evaluate_edge-in-Some-one_below.ensures.says;
+      if_ok_mono c.evaluate_edge-in-Some-one_below.result _ _ (λ u gives. gives_below set q c.args.context.now c.args.node.0 (map (option_map edge_of) c.args.children.now) asked u.value e step lower (sym c.in-Some.ensures.edge) c.in-Some-one_below.ensures.below.0 c.below-lower.ensures.below refl c.in-Some-one_below.ensures.below.1 none l gives) c.evaluate_edge-in-Some-one_below.ensures.says;
   meets =
       let ns = numbered g.K.Validate.shape c.args.engine.now.nodes.now in
       let w = settling (g.M.Matcher.matching c.args.engine.now.matcher.now) c.args.context.now.remembered.assumptions in
@@ -1083,21 +1084,21 @@ evaluate::evaluate_entries-loop-entry-preserved g t c =
     let there = drop_at c.args.entries.now c.loop-entry.entry-index c.entry-item.result c.loop-entry-test.true c.entry-item.is in
     let mode = mode_of c.args.question.now.mode in
     record {
-      stays = λ layout laid right. c.in_ok-given.ensures.stays layout laid (c.loop-entry.invariant.stays layout laid right);
-      root = c.in_ok-given.ensures.keeps.root ∙ c.loop-entry.invariant.root;
-      kept = c.in_ok-given.ensures.keeps.in_progress ∙ c.loop-entry.invariant.kept;
-      assumes = c.in_ok-given.ensures.keeps.assumptions ∙ c.loop-entry.invariant.assumes;
-      marking = c.in_ok-given.ensures.keeps.marking ∙ c.loop-entry.invariant.marking;
-      counted = no_fewer c.args.context.now.visits c.loop-entry.context.visits c.evaluate_entry.new.context.visits c.loop-entry.invariant.counted c.in_ok-given.ensures.counts;
-      worked = spends_on _ _ _ c.loop-entry.invariant.worked c.in_ok-given.ensures.works;
+      stays = λ layout laid right. c.in-Ok.ensures.stays layout laid (c.loop-entry.invariant.stays layout laid right);
+      root = c.in-Ok.ensures.keeps.root ∙ c.loop-entry.invariant.root;
+      kept = c.in-Ok.ensures.keeps.in_progress ∙ c.loop-entry.invariant.kept;
+      assumes = c.in-Ok.ensures.keeps.assumptions ∙ c.loop-entry.invariant.assumes;
+      marking = c.in-Ok.ensures.keeps.marking ∙ c.loop-entry.invariant.marking;
+      counted = no_fewer c.args.context.now.visits c.loop-entry.context.visits c.evaluate_entry.new.context.visits c.loop-entry.invariant.counted c.in-Ok.ensures.counts;
+      worked = spends_on _ _ _ c.loop-entry.invariant.worked c.in-Ok.ensures.works;
       so_far = λ x reads l.
           let parts = λ (es : List (Entry g.row.K.Denot)). parts_units g.K.Validate.words ns x c.args.node.0 (path_of c.args.question.now.path.now) p busy (map (shaped_part g.K.Validate.shape) (map entry_of es)) in
-          let gives = form_moved set q c.args.context.now c.loop-entry.context c.loop-entry.invariant.kept c.loop-entry.invariant.assumes c.args.node.0 part.name part.form c.in_ok-given.given c.in_ok-given.ensures.says x reads l in
-          placed_next (placed_of x.texts c.loop-entry.units) (placed_of x.texts c.place.new.self) _ (record { priority = part.priority; units = entry_units_of x.texts c.in_ok-given.given }) (parts rest) _ _ (ap parts there) (c.in_ok-place.ensures.placed x.texts) (ap (λ units. record { priority = part.priority; units = units }) gives) (c.loop-entry.invariant.so_far x reads l);
+          let gives = form_moved set q c.args.context.now c.loop-entry.context c.loop-entry.invariant.kept c.loop-entry.invariant.assumes c.args.node.0 part.name part.form c.in-Ok.given.value c.in-Ok.ensures.says x reads l in
+          placed_next (placed_of x.texts c.loop-entry.units.value) (placed_of x.texts c.in_ok-units-in-Ok.units.value) _ (record { priority = part.priority; units = entry_units_of x.texts c.in-Ok.given.value }) (parts rest) _ _ (ap parts there) (c.in_ok-units-in-Ok.ensures.placed x.texts) (ap (λ units. record { priority = part.priority; units = units }) gives) (c.loop-entry.invariant.so_far x reads l);
       met = λ texts root depth reads l.
           let looked = λ (es : List (Entry g.row.K.Denot)). parts_looked g.K.Validate.words ns w texts root depth c.args.node.0 (path_of c.args.question.now.path.now) p busy (map (shaped_part g.K.Validate.shape) (map entry_of es)) in
           let one = part_looked g.K.Validate.words ns w texts root depth c.args.node.0 (path_of c.args.question.now.path.now) p busy part in
-          let form = moved (λ es as'. FormMeets g.K.Validate.words g.K.Validate.is_whole ns (length c.args.engine.now.nodes.now) (settling (g.M.Matcher.matching c.args.engine.now.matcher.now) as') mode (path_of c.args.question.now.path.now) p (busy_at p es) s c.loop-entry.context.remembered c.evaluate_entry.new.context.remembered c.args.node.0 part.name part.form) c.loop-entry.invariant.kept c.loop-entry.invariant.assumes c.in_ok-given.ensures.meets texts root depth reads l in
+          let form = moved (λ es as'. FormMeets g.K.Validate.words g.K.Validate.is_whole ns (length c.args.engine.now.nodes.now) (settling (g.M.Matcher.matching c.args.engine.now.matcher.now) as') mode (path_of c.args.question.now.path.now) p (busy_at p es) s c.loop-entry.context.remembered c.evaluate_entry.new.context.remembered c.args.node.0 part.name part.form) c.loop-entry.invariant.kept c.loop-entry.invariant.assumes c.in-Ok.ensures.meets texts root depth reads l in
           let here = meets_same w.matcher _ _ _ _ (other_entry mode one (λ verdict less. absurd (less c.requires.may.wanted))) form in
           let met = c.loop-entry.invariant.met texts root depth reads l in
           let goes = subst (λ m. stops m one.holds ≡ false) (sym c.requires.may.wanted) refl in
@@ -1107,21 +1108,21 @@ evaluate::evaluate_entries-loop-entry-preserved g t c =
 pub evaluate::evaluate_entries-returns : goal.evaluate::evaluate_entries-returns
 evaluate::evaluate_entries-returns g t c = record {
   keeps = first_of (search rules, grind (arith, common_steps));
-  counts = if_ok_always c.into_children.result _ c.loop-entry.invariant.counted;
-  works = if_ok_always c.into_children.result _ c.loop-entry.invariant.worked;
+  counts = if_ok_always c.children_of.result _ c.loop-entry.invariant.counted;
+  works = if_ok_always c.children_of.result _ c.loop-entry.invariant.worked;
   says =
       let ns = numbered g.K.Validate.shape c.args.engine.now.nodes.now in
       let p = steps_to c.args.question.now.place.now in
       let busy = busy_at p c.args.context.now.in_progress in
-      if_ok_mono c.into_children.result _ _ (λ children is x reads l.
+      if_ok_mono c.children_of.result _ _ (λ children is x reads l.
       let parts = λ (es : List (Entry g.row.K.Denot)). parts_units g.K.Validate.words ns x c.args.node.0 (path_of c.args.question.now.path.now) p busy (map (shaped_part g.K.Validate.shape) (map entry_of es)) in
-      placed_last (placed_of x.texts c.loop-entry.units) (parts (drop c.loop-entry.entry-index c.args.entries.now)) (parts c.args.entries.now) _ (ap parts (drop_past c.args.entries.now c.loop-entry.entry-index c.loop-entry-test.false)) (is x.texts) (c.loop-entry.invariant.so_far x reads l)) c.into_children.ensures.children;
+      placed_last (placed_of x.texts c.loop-entry.units.value) (parts (drop c.loop-entry.entry-index c.args.entries.now)) (parts c.args.entries.now) _ (ap parts (drop_past c.args.entries.now c.loop-entry.entry-index c.loop-entry-test.false)) (is x.texts) (c.loop-entry.invariant.so_far x reads l)) c.children_of.ensures.children;
   meets =
       let ns = numbered g.K.Validate.shape c.args.engine.now.nodes.now in
       let w = settling (g.M.Matcher.matching c.args.engine.now.matcher.now) c.args.context.now.remembered.assumptions in
       let p = steps_to c.args.question.now.place.now in
       let busy = busy_at p c.args.context.now.in_progress in
-      if_ok_always c.into_children.result _ (λ texts root depth reads l.
+      if_ok_always c.children_of.result _ (λ texts root depth reads l.
       let looked = λ (es : List (Entry g.row.K.Denot)). parts_looked g.K.Validate.words ns w texts root depth c.args.node.0 (path_of c.args.question.now.path.now) p busy (map (shaped_part g.K.Validate.shape) (map entry_of es)) in
       end_met w.matcher (mode_of c.args.question.now.mode) (looked (drop c.loop-entry.entry-index c.args.entries.now)) (plan_met (mode_of c.args.question.now.mode) (looked c.args.entries.now)) c.args.context.now.remembered c.loop-entry.context.remembered
       (ap looked (drop_past c.args.entries.now c.loop-entry.entry-index c.loop-entry-test.false)) (c.loop-entry.invariant.met texts root depth reads l));
@@ -1170,7 +1171,7 @@ evaluate::evaluate_entry-returns-in_ok-unit-in-Reference g t c = record {
       let name = c.args.entry.now.name in
       let asked : Asking = record { subject = q.subject; place = q.place; path = path_of c.under_reference-path.result; mode = q.mode } in
       let same : asked ≡ q = λ i. record { subject = q.subject; place = q.place; path = c.under_reference-path.ensures.same i; mode = q.mode } in
-      rw c.in-Reference.is (if_ok_mono c.units_of_reference.result _ _ (λ units is. gives_reference set q c.args.context.now c.args.node.0 name units e c.in_ok-unit-in-Reference.unit asked same l is c.in_ok-unit-in-Reference.ensures.says) c.units_of_reference.ensures.units);
+      rw c.in-Reference.is (if_ok_mono c.units_of_reference.result _ _ (λ units is. gives_reference set q c.args.context.now c.args.node.0 name units.value e c.in_ok-unit-in-Reference.unit.value asked same l is c.in_ok-unit-in-Reference.ensures.says) c.units_of_reference.ensures.units);
   meets =
       let ns = numbered g.K.Validate.shape c.args.engine.now.nodes.now in
       let w = settling (g.M.Matcher.matching c.args.engine.now.matcher.now) c.args.context.now.remembered.assumptions in
@@ -1206,7 +1207,7 @@ evaluate::evaluate_keyword-returns g t c = record {
       let n = node_of c.node.result.now in
       let name = c.args.keyword.now.name.now in
       let finds = finds_units set q c.args.context.now c.args.node.0 es m c.in_ok-answer.answer c.requires.may.wanted c.in_ok-answer.ensures.right in
-      if_ok_mono c.units_of_keyword.result _ _ (λ units is. gives_keyword set q c.args.context.now c.args.node.0 name units m es c.in_ok-answer.answer (entry_where n (path_of c.args.question.now.path.now) p)
+      if_ok_mono c.units_of_keyword.result _ _ (λ units is. gives_keyword set q c.args.context.now c.args.node.0 name units.value m es c.in_ok-answer.answer (entry_where n (path_of c.args.question.now.path.now) p)
       (λ x. where_is g.K.Validate.shape c.args.engine.now.nodes.now (g.K.Validate.words x.texts) x.matcher (subject_in x.root) c.args.node.0 n (path_of c.args.question.now.path.now) p c.node.ensures.found) finds is) c.units_of_keyword.ensures.units;
   meets = if_ok_always c.units_of_keyword.result _ (rw (← c.units_of_keyword.ensures.stays) at c.in_ok-answer.ensures.meets);
   stays = if_ok_always c.units_of_keyword.result _ (λ layout laid right.
@@ -1224,7 +1225,7 @@ evaluate::evaluate_node-evaluate_plan-requires g t c =
 pub evaluate::evaluate_node-returns : goal.evaluate::evaluate_node-returns
 evaluate::evaluate_node-returns g t c =
     let set = setting g.K.Validate.words g.K.Validate.is_whole g.K.Validate.shape g.M.Matcher.matching c.args.engine.now in
-    given set c.args.question.now c.args.node.0 c.args.context.now c.step.new.self c.step.ensures.frame c.in_ok-step.ensures.asks c.evaluate_plan.new.context c.evaluate_plan.result c.evaluate_plan.ensures
+    given_boxed set c.args.question.now c.args.node.0 c.args.context.now c.step.new.self c.step.ensures.frame c.in_ok-step.ensures.asks c.evaluate_plan.new.context c.evaluate_plan.result c.evaluate_plan.ensures
 
 pub evaluate::evaluate_plan-evaluate_entries-requires : goal.evaluate::evaluate_plan-evaluate_entries-requires
 evaluate::evaluate_plan-evaluate_entries-requires g t c =
@@ -1251,7 +1252,7 @@ evaluate::evaluate_plan-returns-in-None g t c = record {
       let p = steps_to c.args.question.now.place.now in
       let n = node_of c.node-found.result.now in
       let plan = plan_none g.K.Validate.shape c.args.engine.now.nodes.now c.args.node.0 n c.node-found.ensures.found (ap (option_map plan_of) c.in-None.is) in
-      if_ok_mono c.accepting_unit.result _ _ (λ u is. gives_always set q c.args.context.now c.args.node.0 u (entry_where n (path_of c.args.question.now.path.now) p) (λ x. where_is g.K.Validate.shape c.args.engine.now.nodes.now (g.K.Validate.words x.texts) x.matcher (subject_in x.root) c.args.node.0 n (path_of c.args.question.now.path.now) p c.node-found.ensures.found) plan is) c.accepting_unit.ensures.unit;
+      if_ok_mono c.accepting_unit.result _ _ (λ u is. gives_always set q c.args.context.now c.args.node.0 u.value (entry_where n (path_of c.args.question.now.path.now) p) (λ x. where_is g.K.Validate.shape c.args.engine.now.nodes.now (g.K.Validate.words x.texts) x.matcher (subject_in x.root) c.args.node.0 n (path_of c.args.question.now.path.now) p c.node-found.ensures.found) plan is) c.accepting_unit.ensures.unit;
   meets =
       let ns = numbered g.K.Validate.shape c.args.engine.now.nodes.now in
       let w = settling (g.M.Matcher.matching c.args.engine.now.matcher.now) c.args.context.now.remembered.assumptions in
@@ -1275,7 +1276,7 @@ evaluate::evaluate_plan-returns-in-Always g t c = record {
       let p = steps_to c.args.question.now.place.now in
       let n = node_of c.node-found.result.now in
       let plan = plan_is g.K.Validate.shape c.args.engine.now.nodes.now c.args.node.0 n _ c.node-found.ensures.found (ap (option_map plan_of) c.in-Some.is ∙ ap (λ f. Some (plan_of f)) c.in-Always.is) in
-      if_ok_mono c.accepting_unit-in-Always.result _ _ (λ u is. gives_always set q c.args.context.now c.args.node.0 u (entry_where n (path_of c.args.question.now.path.now) p) (λ x. where_is g.K.Validate.shape c.args.engine.now.nodes.now (g.K.Validate.words x.texts) x.matcher (subject_in x.root) c.args.node.0 n (path_of c.args.question.now.path.now) p c.node-found.ensures.found) plan is) c.accepting_unit-in-Always.ensures.unit;
+      if_ok_mono c.accepting_unit-in-Always.result _ _ (λ u is. gives_always set q c.args.context.now c.args.node.0 u.value (entry_where n (path_of c.args.question.now.path.now) p) (λ x. where_is g.K.Validate.shape c.args.engine.now.nodes.now (g.K.Validate.words x.texts) x.matcher (subject_in x.root) c.args.node.0 n (path_of c.args.question.now.path.now) p c.node-found.ensures.found) plan is) c.accepting_unit-in-Always.ensures.unit;
   meets =
       let ns = numbered g.K.Validate.shape c.args.engine.now.nodes.now in
       let w = settling (g.M.Matcher.matching c.args.engine.now.matcher.now) c.args.context.now.remembered.assumptions in
@@ -1302,7 +1303,7 @@ evaluate::evaluate_plan-returns-in-Never g t c = record {
       let s = subject_of c.args.question.now.instance in
       let n = node_of c.node-found.result.now in
       let plan = plan_is g.K.Validate.shape c.args.engine.now.nodes.now c.args.node.0 n _ c.node-found.ensures.found (ap (option_map plan_of) c.in-Some.is ∙ ap (λ f. Some (plan_of f)) c.in-Never.is) in
-      if_ok_mono c.refusing_unit.result _ _ (λ u is. gives_never set q c.args.context.now c.args.node.0 u (entry_where n (path_of c.args.question.now.path.now) p) (λ x. where_is g.K.Validate.shape c.args.engine.now.nodes.now (g.K.Validate.words x.texts) x.matcher (subject_in x.root) c.args.node.0 n (path_of c.args.question.now.path.now) p c.node-found.ensures.found) plan g.met.K.Validate.speaks (λ x reads. is x.texts (plain_there g.K.Validate.is_whole ns (length c.args.engine.now.nodes.now) w p s x reads))) c.refusing_unit.ensures.unit;
+      if_ok_mono c.refusing_unit.result _ _ (λ u is. gives_never set q c.args.context.now c.args.node.0 u.value (entry_where n (path_of c.args.question.now.path.now) p) (λ x. where_is g.K.Validate.shape c.args.engine.now.nodes.now (g.K.Validate.words x.texts) x.matcher (subject_in x.root) c.args.node.0 n (path_of c.args.question.now.path.now) p c.node-found.ensures.found) plan g.met.K.Validate.speaks (λ x reads. is x.texts (plain_there g.K.Validate.is_whole ns (length c.args.engine.now.nodes.now) w p s x reads))) c.refusing_unit.ensures.unit;
   meets =
       let ns = numbered g.K.Validate.shape c.args.engine.now.nodes.now in
       let w = settling (g.M.Matcher.matching c.args.engine.now.matcher.now) c.args.context.now.remembered.assumptions in
@@ -1342,7 +1343,7 @@ evaluate::evaluate_plan-returns-in_ok-children-in-Keywords g t c =
       says =
           let there = back (λ z y. PartsGive set z y c.args.node.0 xs c.in_ok-children-in-Keywords.children) given.says in
           let gives = rw c.as_slice.ensures.value at there in
-          if_ok_mono c.entries_unit.result _ _ (λ u at. gives_these set q c.args.context.now c.args.node.0 u (entry_where n (path_of c.args.question.now.path.now) p) (λ x. where_is g.K.Validate.shape c.args.engine.now.nodes.now (g.K.Validate.words x.texts) x.matcher (subject_in x.root) c.args.node.0 n (path_of c.args.question.now.path.now) p c.node-found.ensures.found) _ c.in_ok-children-in-Keywords.children _ plan notes (λ texts. at texts q path c.in_ok-kept-in-Keywords.ensures.schema (c.in_ok-pointer-in-Keywords.ensures.same ∙ c.in_ok-place-in-Keywords.ensures.pointer)) gives) c.entries_unit.ensures.unit;
+          if_ok_mono c.entries_unit.result _ _ (λ u at. gives_these set q c.args.context.now c.args.node.0 u.value (entry_where n (path_of c.args.question.now.path.now) p) (λ x. where_is g.K.Validate.shape c.args.engine.now.nodes.now (g.K.Validate.words x.texts) x.matcher (subject_in x.root) c.args.node.0 n (path_of c.args.question.now.path.now) p c.node-found.ensures.found) _ c.in_ok-children-in-Keywords.children _ plan notes (λ texts. at texts q path c.in_ok-kept-in-Keywords.ensures.schema (c.in_ok-pointer-in-Keywords.ensures.same ∙ c.in_ok-place-in-Keywords.ensures.pointer)) gives) c.entries_unit.ensures.unit;
       meets =
           let met = back (λ z y. MeetsParts set z y after c.args.node.0 xs) given.meets in
           if_ok_always c.entries_unit.result _ (meets_these g.K.Validate.words g.K.Validate.is_whole ns (length c.args.engine.now.nodes.now) w (mode_of c.args.question.now.mode) (path_of c.args.question.now.path.now) p busy s c.args.node.0 _ _ _ plan (rw c.as_slice.ensures.value at met));
@@ -1494,7 +1495,7 @@ evaluate::evaluate_edge-returns-then-is_in_progress g t c = record {
       let there : steps_to c.numbered_place-place.result ≡ p = c.numbered_place-place.ensures.same ∙ c.in_ok-pair.ensures.place in
       let n = node_of c.node.result.now in
       let at_node = where_is g.K.Validate.shape c.args.engine.now.nodes.now (g.K.Validate.words false) (g.M.Matcher.matching c.args.engine.now.matcher.now) (λ place. s) e.node n (path_of c.args.question.now.path.now ++ e.path) p c.node.ensures.found in
-      if_ok_mono c.accepting_unit.result _ _ (λ u is. gives_busy set q c.args.context.now e u c.if-not-edge.false old (λ texts. is texts
+      if_ok_mono c.accepting_unit.result _ _ (λ u is. gives_busy set q c.args.context.now e u.value c.if-not-edge.false old (λ texts. is texts
       ∙ ap (λ path. true_unit (entry_where n path (steps_to c.numbered_place-place.result))) c.across-whole.ensures.appended
       ∙ ap (λ place. true_unit (entry_where n (path_of c.args.question.now.path.now ++ e.path) place)) there
       ∙ ap true_unit (sym at_node))) c.accepting_unit.ensures.unit;
@@ -1552,7 +1553,7 @@ evaluate::evaluate_edge-returns g t c = record {
       let there : steps_to c.numbered_place-place.result ≡ p = c.numbered_place-place.ensures.same ∙ c.in_ok-pair.ensures.place in
       let asked : Asking = record { subject = q.subject; place = steps_to c.numbered_place-place.result; path = path_of c.across-whole.result; mode = q.mode } in
       let is : asked ≡ record q { path = q.path ++ e.path } = λ i. record { subject = q.subject; place = there i; path = c.across-whole.ensures.appended i; mode = q.mode } in
-      gives_entered set q c.args.context.now e c.in_ok-unit.unit c.if-not-edge.false entered.0 asked c.enter.new.context is pushed (c.enter.ensures.frame.remembered ∙ ap (λ (z : Context). z.remembered) c.in_ok-pair.ensures.unchanged) c.in_ok-unit.ensures.says;
+      gives_entered set q c.args.context.now e c.in_ok-unit.unit.value c.if-not-edge.false entered.0 asked c.enter.new.context is pushed (c.enter.ensures.frame.remembered ∙ ap (λ (z : Context). z.remembered) c.in_ok-pair.ensures.unchanged) c.in_ok-unit.ensures.says;
   meets =
       let ns = numbered g.K.Validate.shape c.args.engine.now.nodes.now in
       let set = setting g.K.Validate.words g.K.Validate.is_whole g.K.Validate.shape g.M.Matcher.matching c.args.engine.now in
@@ -1570,7 +1571,7 @@ evaluate::evaluate_edge-returns g t c = record {
       let there : steps_to c.numbered_place-place.result ≡ p = c.numbered_place-place.ensures.same ∙ c.in_ok-pair.ensures.place in
       let asked : Asking = record { subject = q.subject; place = steps_to c.numbered_place-place.result; path = path_of c.across-whole.result; mode = q.mode } in
       let is : asked ≡ record q { path = q.path ++ e.path } = λ i. record { subject = q.subject; place = there i; path = c.across-whole.ensures.appended i; mode = q.mode } in
-      let met = entered_meets set q c.args.context.now e c.in_ok-unit.unit c.if-not-edge.false entered.0 asked c.enter.new.context c.evaluate_node-2.new.context is pushed (c.enter.ensures.frame.remembered ∙ ap (λ (z : Context). z.remembered) c.in_ok-pair.ensures.unchanged) c.in_ok-unit.ensures.meets in
+      let met = entered_meets set q c.args.context.now e c.in_ok-unit.unit.value c.if-not-edge.false entered.0 asked c.enter.new.context c.evaluate_node-2.new.context is pushed (c.enter.ensures.frame.remembered ∙ ap (λ (z : Context). z.remembered) c.in_ok-pair.ensures.unchanged) c.in_ok-unit.ensures.meets in
       subst (λ r. EdgeMeets g.K.Validate.words g.K.Validate.is_whole ns (length c.args.engine.now.nodes.now) w (mode_of c.args.question.now.mode) (path_of c.args.question.now.path.now) p busy s c.args.context.now.remembered r e) (sym c.exit.ensures.frame.remembered) met;
   stays =
       let set = setting g.K.Validate.words g.K.Validate.is_whole g.K.Validate.shape g.M.Matcher.matching c.args.engine.now in

@@ -19,6 +19,7 @@ use Rattle.theory_definitions.specs.Guarded.{NodePart, NodePlan, form_edges, nod
 use Rattle.schema_traits.specs.MakerViews.{is_own, maker_reply_of}
 use Rattle.schema_traits.specs.EdgeViews.{edge_of}
 use Rattle.schema_node_table.specs.NodeViews.{entry_of, plan_of}
+use Rattle.schema_compiler.specs.Heads.{boxed_entry}
 use Rattle.schema_keys.specs.KeyViews.{key_of, kind_of}
 use Rattle.schema_compiler.specs.Carried.{filled, task}
 use Rattle.schema_keys.specs.Compiling.{reference_asked}
@@ -50,7 +51,7 @@ child_edge-returns-in_err-edge_to g t c =
     let s = task g.R.Resolver.resolving g.T.KeywordTable.owned g.T.KeywordTable.script g.K.Validate.shape c.args.self.now in
     let old = filled g.R.Resolver.point c.args.compiled.now in
     let p = err_from_is_err_and c.from_residual-in_err-edge_to.result c.from_residual-in_err-edge_to.ensures.1 in
-    rw (p.1, p.2) (asked_refused s.parts s.limit _ (record { key = v c.in_ok-below.below.key; path = pointer_to c.args.path.now; is_reference = false; is_recursive = false }) _ old.keys _ c.in_ok-below.ensures.below c.in_err-edge_to.ensures)
+    rw (p.1, p.2) (asked_refused s.parts s.limit _ (record { key = v c.in_ok-below.below.key.value; path = pointer_to c.args.path.now; is_reference = false; is_recursive = false }) _ old.keys _ c.in_ok-below.ensures.below c.in_err-edge_to.ensures)
 
 pub child_edge-returns : goal.child_edge-returns
 child_edge-returns g t c =
@@ -58,9 +59,9 @@ child_edge-returns g t c =
     let s = task g.R.Resolver.resolving g.T.KeywordTable.owned g.T.KeywordTable.script g.K.Validate.shape c.args.self.now in
     let old = filled g.R.Resolver.point c.args.compiled.now in
     let new = filled g.R.Resolver.point c.edge_to.new.compiled in
-    let edge : Edge _ = record { key = v c.in_ok-below.below.key; path = pointer_to c.args.path.now; is_reference = false; is_recursive = false } in (
-      is_answered s.parts s.shape s.limit _ (record { key = v c.in_ok-below.below.key; path = pointer_to c.args.path.now; is_reference = false; is_recursive = false }) _ old.keys (map v c.edge_to.new.compiled.keys) old.nodes c.edge_to.new.compiled.nodes (edge_of c.in_ok-edge_to.field-0) _ c.in_ok-below.ensures.below
-          (compile_clean s.parts (v c.args.key.now) c.args.path.now (record { key = v c.in_ok-below.below.key; path = pointer_to c.args.path.now; is_reference = false; is_recursive = false }) c.in_ok-below.ensures.below) (λ f. absurd (true≢false (sym f))) c.in_ok-below.ensures.pointer c.in_ok-edge_to.ensures.0,
+    let edge : Edge _ = record { key = v c.in_ok-below.below.key.value; path = pointer_to c.args.path.now; is_reference = false; is_recursive = false } in (
+      is_answered s.parts s.shape s.limit _ (record { key = v c.in_ok-below.below.key.value; path = pointer_to c.args.path.now; is_reference = false; is_recursive = false }) _ old.keys (map v c.edge_to.new.compiled.keys) old.nodes c.edge_to.new.compiled.nodes (edge_of c.in_ok-edge_to.field-0) _ c.in_ok-below.ensures.below
+          (compile_clean s.parts (v c.args.key.now) c.args.path.now (record { key = v c.in_ok-below.below.key.value; path = pointer_to c.args.path.now; is_reference = false; is_recursive = false }) c.in_ok-below.ensures.below) (λ f. absurd (true≢false (sym f))) c.in_ok-below.ensures.pointer c.in_ok-edge_to.ensures.0,
       subst (λ (o : Option (Edge _)). Goes s old new (option_list o) (edge_of c.in_ok-edge_to.field-0 ∷ [])) (sym c.in_ok-below.ensures.below) (c.in_ok-edge_to.ensures.1 edge refl refl),
     )
 
@@ -71,7 +72,7 @@ edge_to-returns g t c =
     let s = task g.R.Resolver.resolving g.T.KeywordTable.owned g.T.KeywordTable.script g.K.Validate.shape c.args.self.now in
     let passes = c.edge_at.ensures.passes in (
       rw (c.edge_at.ensures.keys, c.edge_at.ensures.nodes) (record { table = n.table; grown = n.grown; number = rw c.edge_at.ensures.node n.number; at_path = c.edge_at.ensures.path }),
-      goes_to s (filled g.R.Resolver.point c.args.compiled.now) (filled g.R.Resolver.point c.number_of.new.compiled) (filled g.R.Resolver.point c.edge_at.new.self) (v c.args.key) c.args.nests c.in_ok-number.number (edge_of c.edge_at.result) passes.entry
+      goes_to s (filled g.R.Resolver.point c.args.compiled.now) (filled g.R.Resolver.point c.number_of.new.compiled) (filled g.R.Resolver.point c.edge_at.new.self) (v c.args.key.now.value) c.args.nests c.in_ok-number.number (edge_of c.edge_at.result) passes.entry
           c.in_ok-number.ensures.1 c.edge_at.ensures.reserved (ap (map v) c.edge_at.ensures.keys) c.edge_at.ensures.nodes passes.same_round passes.same_depth passes.loose passes.at c.edge_at.ensures.node passes.guard,
     )
 
@@ -81,7 +82,7 @@ number_of-returns-in-Some g t c =
     let v = key_of g.R.Resolver.point in
     let s = task g.R.Resolver.resolving g.T.KeywordTable.owned g.T.KeywordTable.script g.K.Validate.shape c.args.self.now in (
       record { table = c.requires.table; grown = grown_none _ old.keys old.nodes c.requires.table.lengths; number = c.in-Some.ensures.found },
-      reaches_found s old (v c.args.key) c.args.nests _ c.requires.under_way c.requires.table.lengths c.in-Some.ensures.found,
+      reaches_found s old (v c.args.key.now.value) c.args.nests _ c.requires.under_way c.requires.table.lengths c.in-Some.ensures.found,
     )
 
 pub number_of-returns-then-is_full : goal.number_of-returns-then-is_full
@@ -89,9 +90,9 @@ number_of-returns-then-is_full g t c =
     let v = key_of g.R.Resolver.point in
     let s = task g.R.Resolver.resolving g.T.KeywordTable.owned g.T.KeywordTable.script g.K.Validate.shape c.args.self.now in
     let old = filled g.R.Resolver.point c.args.compiled.now in
-    let k = v c.args.key in
+    let k = v c.args.key.now.value in
     let n = c.in_ok-number.ensures.nodes in
-    let added = rw c.in_ok-shared.ensures.ok at c.in_ok-number.ensures.keys in
+    let added = c.in_ok-number.ensures.keys in
     let keys' = map v c.number_within.new.compiled.keys in
     let nodes' = c.number_within.new.compiled.nodes in
     let new = filled g.R.Resolver.point c.number_within.new.compiled in
@@ -102,8 +103,8 @@ number_of-returns-then-is_full g t c =
         grown = put_grown (Reached s.parts k) old.keys keys' old.nodes nodes' k n.0 c.requires.table.lengths added n.1 n.2 n.3 at_first;
         number = put_number old.keys keys' k c.in_ok-number.number.0 (c.in_ok-number.ensures.number ∙ c.requires.table.lengths) added;
       },
-      subst (λ (b : Bool). Reaches s old new (v c.args.key) b c.in_ok-number.number.0) (sym full.0)
-          (reaches_put s old new (v c.args.key) c.in_ok-number.number.0 n.0 c.requires.under_way c.in_default.ensures.found full.1 c.requires.table.lengths added n.1 n.2 n.3
+      subst (λ (b : Bool). Reaches s old new (v c.args.key.now.value) b c.in_ok-number.number.0) (sym full.0)
+          (reaches_put s old new (v c.args.key.now.value) c.in_ok-number.number.0 n.0 c.requires.under_way c.in_default.ensures.found full.1 c.requires.table.lengths added n.1 n.2 n.3
           (ap (λ (p : Progress). p.round) same) (ap (λ (p : Progress). p.depth) same) (ap (λ (p : Progress). p.reaches_unsettled) same) c.in_ok-number.ensures.reserved c.in_ok-number.ensures.number),
     )
 
@@ -224,11 +225,11 @@ keywords_of-loop-name-preserved-in-Continue-branch-3 g t c =
     record {
       can = tt;
       finite = tt;
-      so_far = rw c.in_ok-insert_by_priority-in-Some-2.ensures.placed (so_far_more s.parts s.shape s.limit s.nested k whole name value rest (Some (entry_of c.in-Some-2.entry)) es old.keys keys' keys'' old.nodes nodes' nodes'' old (filled g.R.Resolver.point c.loop-name.compiled) (filled g.R.Resolver.point c.entry_of.new.compiled) so step made (rw c.in-Some-2.is at c.in_ok-entry.ensures.2));
+      so_far = rw c.in_ok-insert_by_priority-in-Some-2.ensures.placed (so_far_more s.parts s.shape s.limit s.nested k whole name value rest (Some (boxed_entry c.in-Some-2.entry)) es old.keys keys' keys'' old.nodes nodes' nodes'' old (filled g.R.Resolver.point c.loop-name.compiled) (filled g.R.Resolver.point c.entry_of.new.compiled) so step made (rw c.in-Some-2.is at c.in_ok-entry.ensures.2));
       unknown = (
         done ++ member ∷ [],
         all',
-        made_known s.parts k whole s.shape keys'' (entry_of c.in-Some-2.entry) done member (members_view c.loop-name.unknown.entries) made inv.2,
+        made_known s.parts k whole s.shape keys'' (boxed_entry c.in-Some-2.entry) done member (members_view c.loop-name.unknown.entries) made inv.2,
         more_absorbed s.parts k whole done member _ _ inv.3 c.in_ok-entry.ensures.1,
       );
     }
@@ -307,7 +308,7 @@ entry_of-returns-then-owns g t c =
     let owns = rw c.as_str-text.ensures.value at c.owns.ensures.owned in
     let made = c.make_entry in
     let new = filled g.R.Resolver.point made.new.compiled in
-    own_is s.parts k whole name value (λ (es : List (Edge _)) (cs : List Cause) (p : Option (Part _)). MatchResult made.result (λ o. (MakesPart s.parts s.shape s.limit old.keys new.keys old.nodes new.nodes es cs k (option_map entry_of o) p) × (map string_bytes made.new.absorbed.items ≡ before ++ absorbed_by p) × (Goes s old new es (part_edges (option_map entry_of o)))) (Refused s.parts s.limit es cs old.keys))
+    own_is s.parts k whole name value (λ (es : List (Edge _)) (cs : List Cause) (p : Option (Part _)). MatchResult made.result (λ o. (MakesPart s.parts s.shape s.limit old.keys new.keys old.nodes new.nodes es cs k (option_map boxed_entry o) p) × (map string_bytes made.new.absorbed.items ≡ before ++ absorbed_by p) × (Goes s old new es (part_edges (option_map boxed_entry o)))) (Refused s.parts s.limit es cs old.keys))
     (sym owns ∙ c.if-owns.true) (value_says made.result _ _ _ (λ o h. (h.0, h.1, h.2)) made.ensures)
 
 pub entry_of-returns-in-Some-reference_kind : goal.entry_of-returns-in-Some-reference_kind
@@ -326,7 +327,7 @@ entry_of-returns-in-Some-reference_kind g t c =
     let made = c.reference_by in
     let new = filled g.R.Resolver.point made.new.compiled in
     let none = reference_absorbs s.parts k name c.in-Some.row.priority (kind_of c.in-Some-reference_kind.kind) value in
-    reference_is s.parts k whole name value (λ (es : List (Edge _)) (cs : List Cause) (p : Option (Part _)). MatchResult made.result (λ o. (MakesPart s.parts s.shape s.limit old.keys new.keys old.nodes new.nodes es cs k (option_map entry_of o) p) × (map string_bytes c.args.absorbed.now.items ≡ before ++ absorbed_by p) × (Goes s old new es (part_edges (option_map entry_of o)))) (Refused s.parts s.limit es cs old.keys))
+    reference_is s.parts k whole name value (λ (es : List (Edge _)) (cs : List Cause) (p : Option (Part _)). MatchResult made.result (λ o. (MakesPart s.parts s.shape s.limit old.keys new.keys old.nodes new.nodes es cs k (option_map boxed_entry o) p) × (map string_bytes c.args.absorbed.now.items ≡ before ++ absorbed_by p) × (Goes s old new es (part_edges (option_map boxed_entry o)))) (Refused s.parts s.limit es cs old.keys))
     _ (kind_of c.in-Some-reference_kind.kind) (sym owns ∙ c.if-owns.false) row kind
     (value_says made.result _ _ _ (λ o h. (h.0, sym (ap (λ (names : List Text). before ++ names) none ∙ append-nil before), h.1)) made.ensures)
 
@@ -345,7 +346,7 @@ entry_of-returns-in-None-reference_kind g t c =
     let kind = rw (c.in-Some.ensures.named, c.as_str-text.ensures.value) at c.in-None-reference_kind.ensures.kind in
     let made = c.make_entry-in-None-reference_kind in
     let new = filled g.R.Resolver.point made.new.compiled in
-    built_is s.parts k whole name value (λ (es : List (Edge _)) (cs : List Cause) (p : Option (Part _)). MatchResult made.result (λ o. (MakesPart s.parts s.shape s.limit old.keys new.keys old.nodes new.nodes es cs k (option_map entry_of o) p) × (map string_bytes made.new.absorbed.items ≡ before ++ absorbed_by p) × (Goes s old new es (part_edges (option_map entry_of o)))) (Refused s.parts s.limit es cs old.keys))
+    built_is s.parts k whole name value (λ (es : List (Edge _)) (cs : List Cause) (p : Option (Part _)). MatchResult made.result (λ o. (MakesPart s.parts s.shape s.limit old.keys new.keys old.nodes new.nodes es cs k (option_map boxed_entry o) p) × (map string_bytes made.new.absorbed.items ≡ before ++ absorbed_by p) × (Goes s old new es (part_edges (option_map boxed_entry o)))) (Refused s.parts s.limit es cs old.keys))
     _ (sym owns ∙ c.if-owns.false) row kind (value_says made.result _ _ _ (λ o h. (h.0, h.1, h.2)) made.ensures)
 
 pub entry_of-returns-in-None : goal.entry_of-returns-in-None
@@ -374,7 +375,7 @@ make_entry-loop-children-init g t c =
     let making = making s.parts k whole (is_own c.args.head.origin) name in
     let script = g.T.KeywordTable.script c.args.self.now.table.now (is_own c.args.head.origin) name whole k.target.draft k.target.vocabularies (checks_formats s.parts k) in
     let alike = asks_alike g.K.Validate.absorbed g.K.Validate.is_whole whole script (g.met.T.KeywordTable.right c.args.self.now.table.now (is_own c.args.head.origin) name whole k.target.draft k.target.vocabularies (checks_formats s.parts k)) in
-    (rw c.new-children.ensures.items (asked_begun s.parts s.shape s.limit s.nested k name making script (g.T.KeywordTable.waiting c.in_ok-maker.maker) old.keys old.nodes old refl alike c.in_ok-maker.ensures.begins c.requires.may.table c.requires.may.under_way), refl)
+    (rw c.new-children.ensures.items (asked_begun s.parts s.shape s.limit s.nested k name making script (g.T.KeywordTable.waiting c.in_ok-maker.maker.value) old.keys old.nodes old refl alike c.in_ok-maker.ensures.begins c.requires.may.table c.requires.may.under_way), refl)
 
 pub make_entry-returns-in_err-edge-in-Compile : goal.make_entry-returns-in_err-edge-in-Compile
 make_entry-returns-in_err-edge-in-Compile g t c =
@@ -386,7 +387,7 @@ make_entry-returns-in_err-edge-in-Compile g t c =
     let name = string_bytes c.args.head.name.now in
     let making = making s.parts k whole (is_own c.args.head.origin) name in
     let inv = c.loop-children.invariant.0 in
-    let waiting = g.T.KeywordTable.waiting c.loop-children.maker in
+    let waiting = g.T.KeywordTable.waiting c.loop-children.maker.value in
     let waiting' = g.T.KeywordTable.waiting c.turn.new.maker in
     let told = maker_reply_of c.loop-children.reply in
     let es = map (option_map edge_of) c.loop-children.children.items in
@@ -406,7 +407,7 @@ make_entry-loop-children-preserved-in-Compile g t c =
     let name = string_bytes c.args.head.name.now in
     let making = making s.parts k whole (is_own c.args.head.origin) name in
     let inv = c.loop-children.invariant.0 in
-    let waiting = g.T.KeywordTable.waiting c.loop-children.maker in
+    let waiting = g.T.KeywordTable.waiting c.loop-children.maker.value in
     let waiting' = g.T.KeywordTable.waiting c.turn.new.maker in
     let told = maker_reply_of c.loop-children.reply in
     let es = map (option_map edge_of) c.loop-children.children.items in
@@ -430,7 +431,7 @@ make_entry-returns-in_err-edge-in-Refer g t c =
     let name = string_bytes c.args.head.name.now in
     let making = making s.parts k whole (is_own c.args.head.origin) name in
     let inv = c.loop-children.invariant.0 in
-    let waiting = g.T.KeywordTable.waiting c.loop-children.maker in
+    let waiting = g.T.KeywordTable.waiting c.loop-children.maker.value in
     let waiting' = g.T.KeywordTable.waiting c.turn.new.maker in
     let told = maker_reply_of c.loop-children.reply in
     let es = map (option_map edge_of) c.loop-children.children.items in
@@ -443,7 +444,7 @@ make_entry-returns-in_err-edge-in-Refer g t c =
 pub make_entry-loop-children-smaller-in-Refer : goal.make_entry-loop-children-smaller-in-Refer
 make_entry-loop-children-smaller-in-Refer g t c =
     let inv = c.loop-children.invariant.0 in
-    let waiting = g.T.KeywordTable.waiting c.loop-children.maker in
+    let waiting = g.T.KeywordTable.waiting c.loop-children.maker.value in
     let waiting' = g.T.KeywordTable.waiting c.turn.new.maker in
     let told = maker_reply_of c.loop-children.reply in
     let takes = rw c.in-Refer.is at c.in_ok-path.ensures.takes in
@@ -459,7 +460,7 @@ make_entry-loop-children-preserved-in-Refer g t c =
     let name = string_bytes c.args.head.name.now in
     let making = making s.parts k whole (is_own c.args.head.origin) name in
     let inv = c.loop-children.invariant.0 in
-    let waiting = g.T.KeywordTable.waiting c.loop-children.maker in
+    let waiting = g.T.KeywordTable.waiting c.loop-children.maker.value in
     let waiting' = g.T.KeywordTable.waiting c.turn.new.maker in
     let told = maker_reply_of c.loop-children.reply in
     let es = map (option_map edge_of) c.loop-children.children.items in
@@ -483,7 +484,7 @@ make_entry-loop-children-preserved-in-Pending g t c =
     let name = string_bytes c.args.head.name.now in
     let making = making s.parts k whole (is_own c.args.head.origin) name in
     let inv = c.loop-children.invariant.0 in
-    let waiting = g.T.KeywordTable.waiting c.loop-children.maker in
+    let waiting = g.T.KeywordTable.waiting c.loop-children.maker.value in
     let waiting' = g.T.KeywordTable.waiting c.turn.new.maker in
     let told = maker_reply_of c.loop-children.reply in
     let es = map (option_map edge_of) c.loop-children.children.items in
@@ -504,7 +505,7 @@ make_entry-loop-children-preserved g t c =
     let name = string_bytes c.args.head.name.now in
     let making = making s.parts k whole (is_own c.args.head.origin) name in
     let inv = c.loop-children.invariant.0 in
-    let waiting = g.T.KeywordTable.waiting c.loop-children.maker in
+    let waiting = g.T.KeywordTable.waiting c.loop-children.maker.value in
     let waiting' = g.T.KeywordTable.waiting c.turn.new.maker in
     let told = maker_reply_of c.loop-children.reply in
     let es = map (option_map edge_of) c.loop-children.children.items in
@@ -515,8 +516,8 @@ make_entry-loop-children-preserved g t c =
       c.loop-children.invariant.1,
     )
 
-pub make_entry-returns-in-Keyword : goal.make_entry-returns-in-Keyword
-make_entry-returns-in-Keyword g t c =
+pub make_entry-returns-in_ok-entry-in-Keyword : goal.make_entry-returns-in_ok-entry-in-Keyword
+make_entry-returns-in_ok-entry-in-Keyword g t c =
     let v = key_of g.R.Resolver.point in
     let s = task g.R.Resolver.resolving g.T.KeywordTable.owned g.T.KeywordTable.script g.K.Validate.shape c.args.self.now in
     let old = filled g.R.Resolver.point c.args.compiled.now in
@@ -525,23 +526,23 @@ make_entry-returns-in-Keyword g t c =
     let name = string_bytes c.args.head.name.now in
     let making = making s.parts k whole (is_own c.args.head.origin) name in
     let inv = c.loop-children.invariant.0 in
-    let waiting = g.T.KeywordTable.waiting c.loop-children.maker in
+    let waiting = g.T.KeywordTable.waiting c.loop-children.maker.value in
     let waiting' = g.T.KeywordTable.waiting c.turn.new.maker in
     let told = maker_reply_of c.loop-children.reply in
     let es = map (option_map edge_of) c.loop-children.children.items in
     let keys' = map v c.loop-children.compiled.keys in
     let nodes' = c.loop-children.compiled.nodes in
     let takes = rw c.in-Keyword.is at c.in_ok-path.ensures.takes in
-    let made = made_keyword s.parts s.shape s.limit s.nested k name making waiting waiting' told es old.keys keys' old.nodes nodes' c.args.head.priority c.args.head.is_leaf c.in-Keyword.keyword c.in-Keyword.names inv takes in
+    let made = made_keyword s.parts s.shape s.limit s.nested k name making waiting waiting' told es old.keys keys' old.nodes nodes' c.args.head.priority c.args.head.is_leaf c.in-Keyword.made.value.keyword c.in-Keyword.made.value.names inv takes in
     let before = map string_bytes c.args.absorbed.now.items in
-    let rs = c.give_up.new.self in
-    let ends = ends_held k.target.place name of_its_keyword c.len-first.result old.reserved _ rs inv.holds c.len-first.ensures.count c.give_up.ensures.given_up in (
-      rw c.in_ok-entry_named-in-Keyword.ensures.entry (record { step = made.0; made = made.1 }),
-      c.in_ok-absorb-in-Keyword.ensures.added ∙ ap (λ (so_far : List (String Global)). map string_bytes so_far ++ map string_bytes c.in-Keyword.names.items) c.loop-children.invariant.1
+    let rs = c.made_entry.new.reservations in
+    let ends = ends_held k.target.place name of_its_keyword c.len-first.result old.reserved _ rs inv.holds c.len-first.ensures.count c.in_ok-entry-in-Keyword.ensures.given_up in (
+      rw c.in_ok-entry-in-Keyword.ensures.entry (record { step = made.0; made = made.1 }),
+      c.in_ok-entry-in-Keyword.ensures.added ∙ ap (λ (so_far : List (String Global)). map string_bytes so_far ++ map string_bytes c.in-Keyword.made.value.names.items) c.loop-children.invariant.1
           ∙ ap (λ (names : List Text). before ++ names)
-          (sym (absorbed_keyword s.parts s.shape s.limit s.nested k name making waiting waiting' told es old.keys keys' old.nodes nodes' c.args.head.priority c.args.head.is_leaf c.in-Keyword.keyword c.in-Keyword.names inv takes)),
-      subst (λ (x : NodePart _). Goes s old (having (filled g.R.Resolver.point c.loop-children.compiled) rs) (maker_edges s.parts k name making) (form_edges x.form)) (sym c.in_ok-entry_named-in-Keyword.ensures.entry)
-          (keyword_goes s.parts s.shape s.limit s.nested k name making waiting waiting' told es old.keys keys' old.nodes nodes' c.in-Keyword.keyword c.in-Keyword.names inv takes rs (ends_reserves k.target.place name of_its_keyword old.reserved rs refl ends)),
+          (sym (absorbed_keyword s.parts s.shape s.limit s.nested k name making waiting waiting' told es old.keys keys' old.nodes nodes' c.args.head.priority c.args.head.is_leaf c.in-Keyword.made.value.keyword c.in-Keyword.made.value.names inv takes)),
+      subst (λ (x : NodePart _). Goes s old (having (filled g.R.Resolver.point c.loop-children.compiled) rs) (maker_edges s.parts k name making) (form_edges x.form)) (sym c.in_ok-entry-in-Keyword.ensures.entry)
+          (keyword_goes s.parts s.shape s.limit s.nested k name making waiting waiting' told es old.keys keys' old.nodes nodes' c.in-Keyword.made.value.keyword c.in-Keyword.made.value.names inv takes rs (ends_reserves k.target.place name of_its_keyword old.reserved rs refl ends)),
       ends,
     )
 
@@ -555,7 +556,7 @@ make_entry-returns-in-Nothing g t c =
     let name = string_bytes c.args.head.name.now in
     let making = making s.parts k whole (is_own c.args.head.origin) name in
     let inv = c.loop-children.invariant.0 in
-    let waiting = g.T.KeywordTable.waiting c.loop-children.maker in
+    let waiting = g.T.KeywordTable.waiting c.loop-children.maker.value in
     let waiting' = g.T.KeywordTable.waiting c.turn.new.maker in
     let told = maker_reply_of c.loop-children.reply in
     let es = map (option_map edge_of) c.loop-children.children.items in
@@ -564,8 +565,8 @@ make_entry-returns-in-Nothing g t c =
     let takes = rw c.in-Nothing.is at c.in_ok-path.ensures.takes in
     let made = made_nothing s.parts s.shape s.limit s.nested k name making waiting waiting' told es old.keys keys' old.nodes nodes' c.args.head.priority c.args.head.is_leaf inv takes in
     let before = map string_bytes c.args.absorbed.now.items in
-    let rs = c.give_up-in-Nothing.new.self in
-    let ends = ends_held k.target.place name of_no_entry c.len-first.result old.reserved _ rs inv.holds c.len-first.ensures.count c.give_up-in-Nothing.ensures.given_up in (
+    let rs = c.give_up.new.self in
+    let ends = ends_held k.target.place name of_no_entry c.len-first.result old.reserved _ rs inv.holds c.len-first.ensures.count c.give_up.ensures.given_up in (
       record { step = made.0; made = made.1 },
       ap (λ (so_far : List (String Global)). map string_bytes so_far) c.loop-children.invariant.1
           ∙ sym (ap (λ (names : List Text). before ++ names) (absorbed_nothing s.parts s.shape s.limit s.nested k name making waiting waiting' told es old.keys keys' old.nodes nodes' c.args.head.priority c.args.head.is_leaf inv takes) ∙ append-nil before),
@@ -581,12 +582,12 @@ make_entry-returns-in-Refuse g t c =
     let k = v c.args.key.now in
     let name = string_bytes c.args.head.name.now in
     let making = making s.parts k (members_view c.args.members.now.entries) (is_own c.args.head.origin) name in
-    let waiting = g.T.KeywordTable.waiting c.loop-children.maker in
+    let waiting = g.T.KeywordTable.waiting c.loop-children.maker.value in
     let waiting' = g.T.KeywordTable.waiting c.turn.new.maker in
     let told = maker_reply_of c.loop-children.reply in
     let es = map (option_map edge_of) c.loop-children.children.items in
     let keys' = map v c.loop-children.compiled.keys in
-    maker_refused s.parts s.shape s.limit s.nested k name making waiting waiting' told es old.keys keys' old.nodes c.loop-children.compiled.nodes c.in-Refuse.error c.loop-children.invariant.0
+    maker_refused s.parts s.shape s.limit s.nested k name making waiting waiting' told es old.keys keys' old.nodes c.loop-children.compiled.nodes c.in-Refuse.error.value c.loop-children.invariant.0
     (rw c.in-Refuse.is at c.in_ok-path.ensures.takes)
 
 pub plan_object-returns-in_err-entry-in-Some : goal.plan_object-returns-in_err-entry-in-Some
@@ -624,7 +625,7 @@ plan_object-returns-in_ok-node_alone-in-Some g t c =
           (planned_alone s.parts k s.shape s.limit old.keys keys' old.nodes nodes' _ _ _ _ (plan_of n.form) n.annotations c.in_ok-node_alone-in-Some.ensures.plan c.in_ok-node_alone-in-Some.ensures.annotations (rw c.in_ok-name-in-Some.ensures.ok at c.in_ok-entry-in-Some.ensures.0)),
       lone_is s.parts k whole (λ (es : List (Edge _)) (cs : List Cause) (q : Plan _) (a : Option Data). Goes s old new es (node_edges (plan_of c.in_ok-node_alone-in-Some.field-0.form))) (view c.in-Some.value.now) c.in-Some.ensures.alone
           (subst (λ (p : NodePlan _). Goes s old new (reference_edges s.parts k (codes "$ref") to_ref (view c.in-Some.value.now)) (node_edges p)) (sym c.in_ok-node_alone-in-Some.ensures.plan)
-          (alone_goes s old new (reference_edges s.parts k (codes "$ref") to_ref (view c.in-Some.value.now)) (option_map entry_of c.in_ok-entry-in-Some.entry) (rw c.in_ok-name-in-Some.ensures.ok at c.in_ok-entry-in-Some.ensures.1))),
+          (alone_goes s old new (reference_edges s.parts k (codes "$ref") to_ref (view c.in-Some.value.now)) (option_map boxed_entry c.in_ok-entry-in-Some.entry) (rw c.in_ok-name-in-Some.ensures.ok at c.in_ok-entry-in-Some.ensures.1))),
     )
 
 pub plan_object-returns-in_ok-keywords-in-None : goal.plan_object-returns-in_ok-keywords-in-None
@@ -643,12 +644,12 @@ plan_object-returns-in_ok-keywords-in-None g t c =
       members_are s.parts k whole (λ (es : List (Edge _)) (cs : List Cause) (q : Plan _) (a : Option Data). Goes s old new es (node_edges (node_these (map entry_of c.in_ok-keywords-in-None.keywords.entries.items)))) c.in-None.ensures.alone c.in_ok-keywords-in-None.ensures.1,
     )
 
-pub reference_edge-returns-in_err-target_of : goal.reference_edge-returns-in_err-target_of
-reference_edge-returns-in_err-target_of g t c =
+pub reference_edge-returns-in_err-shared_target : goal.reference_edge-returns-in_err-shared_target
+reference_edge-returns-in_err-shared_target g t c =
     let old = filled g.R.Resolver.point c.args.compiled.now in
     let name = string_bytes c.args.name.now in
-    let h = rw c.as_str-2.ensures.value at (c.in_err-target_of.ensures.refused name old.keys) in
-    let p = err_from_is_err_and c.from_residual-in_err-target_of.result c.from_residual-in_err-target_of.ensures.1 in
+    let h = rw c.as_str-2.ensures.value at (c.in_err-shared_target.ensures.refused name old.keys) in
+    let p = err_from_is_err_and c.from_residual-in_err-shared_target.result c.from_residual-in_err-shared_target.ensures.1 in
     rw (p.1, p.2) h
 
 pub reference_edge-returns-in_err-edge-in-Some : goal.reference_edge-returns-in_err-edge-in-Some
@@ -660,10 +661,10 @@ reference_edge-returns-in_err-edge-in-Some g t c =
     let name = string_bytes c.args.name.now in
     let kind = kind_of c.args.kind in
     let text = string_bytes c.args.text.now in
-    let target = rw c.as_str-2.ensures.value at c.in_ok-target_of.ensures.target in
+    let target = rw c.as_str-2.ensures.value at c.in_ok-shared_target.ensures.target in
     let t = rw c.in-Some.is at target in
     let p = err_from_is_err_and c.from_residual-in_err-edge-in-Some.result c.from_residual-in_err-edge-in-Some.ensures.1 in
-    rw (p.1, p.2) (asked_refused s.parts s.limit (reference_asked s.parts k name kind text) (record { key = v c.in-Some.target; path = joined [] name; is_reference = true; is_recursive = is_recursive_ref kind }) _ old.keys _ (asked_edge s.parts k name kind text (record { key = v c.in-Some.target; path = joined [] name; is_reference = true; is_recursive = is_recursive_ref kind }) t.0 (t.1 name)) c.in_err-edge-in-Some.ensures)
+    rw (p.1, p.2) (asked_refused s.parts s.limit (reference_asked s.parts k name kind text) (record { key = v c.in-Some.target.value; path = joined [] name; is_reference = true; is_recursive = is_recursive_ref kind }) _ old.keys _ (asked_edge s.parts k name kind text (record { key = v c.in-Some.target.value; path = joined [] name; is_reference = true; is_recursive = is_recursive_ref kind }) t.0 (t.1 name)) c.in_err-edge-in-Some.ensures)
 
 pub reference_edge-returns-in-None : goal.reference_edge-returns-in-None
 reference_edge-returns-in-None g t c =
@@ -674,7 +675,7 @@ reference_edge-returns-in-None g t c =
     let name = string_bytes c.args.name.now in
     let kind = kind_of c.args.kind in
     let text = string_bytes c.args.text.now in
-    let target = rw c.as_str-2.ensures.value at c.in_ok-target_of.ensures.target in
+    let target = rw c.as_str-2.ensures.value at c.in_ok-shared_target.ensures.target in
     let h = rw c.in-None.is at target in (
       is_skipped s.parts s.shape s.limit (reference_asked s.parts k name kind text) _ old.keys old.nodes (asked_self s.parts k name kind text h) (self_clean s.parts k kind text h) c.requires.table,
       subst (λ (o : Option (Edge _)). Goes s old old (option_list o) []) (sym (asked_self s.parts k name kind text h)) (goes_none s old c.requires.under_way),
@@ -689,12 +690,12 @@ reference_edge-returns-in_ok-edge-in-Some g t c =
     let name = string_bytes c.args.name.now in
     let kind = kind_of c.args.kind in
     let text = string_bytes c.args.text.now in
-    let target = rw c.as_str-2.ensures.value at c.in_ok-target_of.ensures.target in
+    let target = rw c.as_str-2.ensures.value at c.in_ok-shared_target.ensures.target in
     let t = rw c.in-Some.is at target in
     let new = filled g.R.Resolver.point c.edge_to.new.compiled in
-    let edge : Edge _ = record { key = v c.in-Some.target; path = joined [] name; is_reference = true; is_recursive = is_recursive_ref kind } in (
-      is_answered s.parts s.shape s.limit (reference_asked s.parts k name kind text) (record { key = v c.in-Some.target; path = joined [] name; is_reference = true; is_recursive = is_recursive_ref kind }) _ old.keys (map v c.edge_to.new.compiled.keys) old.nodes c.edge_to.new.compiled.nodes (edge_of c.in_ok-edge-in-Some.edge) _ (asked_edge s.parts k name kind text (record { key = v c.in-Some.target; path = joined [] name; is_reference = true; is_recursive = is_recursive_ref kind }) t.0 (t.1 name))
-          (reference_clean s.parts k name kind text (record { key = v c.in-Some.target; path = joined [] name; is_reference = true; is_recursive = is_recursive_ref kind }) (t.1 name)) (λ f. t.2) (grind (arith, common_steps, c.in_ok-path.ensures)) c.in_ok-edge-in-Some.ensures.0,
+    let edge : Edge _ = record { key = v c.in-Some.target.value; path = joined [] name; is_reference = true; is_recursive = is_recursive_ref kind } in (
+      is_answered s.parts s.shape s.limit (reference_asked s.parts k name kind text) (record { key = v c.in-Some.target.value; path = joined [] name; is_reference = true; is_recursive = is_recursive_ref kind }) _ old.keys (map v c.edge_to.new.compiled.keys) old.nodes c.edge_to.new.compiled.nodes (edge_of c.in_ok-edge-in-Some.edge) _ (asked_edge s.parts k name kind text (record { key = v c.in-Some.target.value; path = joined [] name; is_reference = true; is_recursive = is_recursive_ref kind }) t.0 (t.1 name))
+          (reference_clean s.parts k name kind text (record { key = v c.in-Some.target.value; path = joined [] name; is_reference = true; is_recursive = is_recursive_ref kind }) (t.1 name)) (λ f. t.2) (grind (arith, common_steps, c.in_ok-path.ensures)) c.in_ok-edge-in-Some.ensures.0,
       subst (λ (o : Option (Edge _)). Goes s old new (option_list o) (edge_of c.in_ok-edge-in-Some.edge ∷ [])) (sym (asked_edge s.parts k name kind text edge t.0 (t.1 name))) (c.in_ok-edge-in-Some.ensures.1 edge refl (sym c.nests.ensures.nests)),
     )
 

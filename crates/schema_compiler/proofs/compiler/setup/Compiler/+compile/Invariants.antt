@@ -53,12 +53,12 @@ invariant-make_entry-loop-children g l =
     let v = key_of g.R.Resolver.point in
     let w = given_parts (g.R.Resolver.resolving l.self.resolver.now) (g.T.KeywordTable.owned l.self.table.now) (g.T.KeywordTable.script l.self.table.now) l.self.options.now in
     (Asked w g.K.Validate.shape l.self.options.now.node_limit l.self.nested_limit (v l.key) (string_bytes l.head.name.now) (making w (v l.key) (members_view l.members.entries) (is_own l.head.origin) (string_bytes l.head.name.now))
-    (g.T.KeywordTable.waiting l.maker) (maker_reply_of l.reply) (map (option_map edge_of) l.children.items)
+    (g.T.KeywordTable.waiting l.maker.value) (maker_reply_of l.reply) (map (option_map edge_of) l.children.items)
     (map v l.initial.compiled.keys) (map v l.compiled.keys) l.initial.compiled.nodes l.compiled.nodes (filled g.R.Resolver.point l.initial.compiled) (filled g.R.Resolver.point l.compiled))
     × (l.absorbed.items ≡ l.initial.absorbed.items)
 
 abbrev pub decreases-make_entry-loop-children : goal.decreases-make_entry-loop-children
-decreases-make_entry-loop-children g l = turns (resumed (g.T.KeywordTable.waiting l.maker) (maker_reply_of l.reply))
+decreases-make_entry-loop-children g l = turns (resumed (g.T.KeywordTable.waiting l.maker.value) (maker_reply_of l.reply))
 
 -- the keywords so far, the members that no keyword is made of, and the names that are absorbed
 abbrev pub invariant-keywords_of-loop-name : goal.invariant-keywords_of-loop-name

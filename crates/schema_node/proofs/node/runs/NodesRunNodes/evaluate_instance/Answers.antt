@@ -8,7 +8,7 @@ use Rattle.schema_node_table.specs.NodeTable.{numbered}
 use Rattle.schema_run_context.specs.Progress.{Context, NoDeeper, busy_at, places_in}
 use Rattle.schema_run_context.proofs.Matches.{completes_once}
 use Rattle.schema_node_table.proofs.RankedTable.{ranked_table}
-use Rattle.schema_traits.proofs.Replies.{if_ok_mono}
+use Rattle.schema_reports.specs.UnitViews.{unit_of}
 use Rattle.theory_runs.proofs.RightVerdicts.{layout_from, lays_out_from, none_right, root_lays_out}
 use Rattle.theory_runs.specs.UnitStates.{evaluating}
 use Rattle.theory_runs.proofs.Placing.{stands_on}
@@ -34,27 +34,28 @@ evaluate_node-requires g c =
 
 pub returns : goal.returns
 returns g c = record {
-  kept = if_ok_mono c.evaluate_node.result _ _ (λ u keeps. keeps.in_progress ∙ ap (λ (z : Context). z.in_progress) c.forget_verdicts.ensures.forgotten) c.evaluate_node.ensures.keeps;
-  assumes = if_ok_mono c.evaluate_node.result _ _ (λ u keeps. keeps.assumptions ∙ ap (λ (z : Context). z.remembered.assumptions) c.forget_verdicts.ensures.forgotten) c.evaluate_node.ensures.keeps;
-  marking = if_ok_mono c.evaluate_node.result _ _ (λ u keeps. keeps.marking ∙ ap (λ (z : Context). z.marking) c.forget_verdicts.ensures.forgotten) c.evaluate_node.ensures.keeps;
-  works = rw (ap (λ (z : Context). z.work) c.forget_verdicts.ensures.forgotten) at c.evaluate_node.ensures.works;
+  kept = c.in_ok-unit.ensures.keeps.in_progress ∙ ap (λ (z : Context). z.in_progress) c.forget_verdicts.ensures.forgotten;
+  assumes = c.in_ok-unit.ensures.keeps.assumptions ∙ ap (λ (z : Context). z.remembered.assumptions) c.forget_verdicts.ensures.forgotten;
+  marking = c.in_ok-unit.ensures.keeps.marking ∙ ap (λ (z : Context). z.marking) c.forget_verdicts.ensures.forgotten;
+  works = rw (ap (λ (z : Context). z.work) c.forget_verdicts.ensures.forgotten) at c.in_ok-unit.ensures.works;
   gives =
       let as' = c.args.context.now.remembered.assumptions in
       let w = settling (g.M.Matcher.matching c.args.matcher.now) as' in
-      if_ok_mono c.evaluate_node.result _ _ (λ u gives root texts at_place tells once n enough.
-      gives (reading w texts root n) (record { stands = at_place; tells = tells; matcher = refl; completes = completes_once as' once }) enough
-      ∙ sym (runs_say_outcomes (g.K.Validate.words texts) w.matcher (numbered g.K.Validate.shape c.args.self.now) (subject_in root) as' n c.args.node.0 c.args.path.now c.args.place.now (busy_at c.args.place.now c.args.context.now.in_progress)).1)
-      (rw (c.given-path.ensures.same, c.given-place.ensures.same, c.forget_verdicts.ensures.forgotten) at c.evaluate_node.ensures.says);
+      let gives = rw (c.given-path.ensures.same, c.given-place.ensures.same, c.forget_verdicts.ensures.forgotten) at c.in_ok-unit.ensures.says in
+      λ root texts at_place tells once n enough.
+      ap (unit_of texts) c.into_inner.ensures ∙ gives (reading w texts root n) (record { stands = at_place; tells = tells; matcher = refl; completes = completes_once as' once }) enough
+      ∙ sym (runs_say_outcomes (g.K.Validate.words texts) w.matcher (numbered g.K.Validate.shape c.args.self.now) (subject_in root) as' n c.args.node.0 c.args.path.now c.args.place.now (busy_at c.args.place.now c.args.context.now.in_progress)).1;
   meets =
       let as' = c.args.context.now.remembered.assumptions in
-      if_ok_mono c.evaluate_node.result _ _ (λ u meets root texts at_place tells once n enough.
-      meets texts root n (record { stands = at_place; tells = tells; matcher = refl; completes = completes_once as' once }) enough)
-      (rw (c.given-path.ensures.same, c.given-place.ensures.same, c.forget_verdicts.ensures.forgotten) at c.evaluate_node.ensures.meets);
-  right = if_ok_mono c.evaluate_node.result _ _ (λ u stays root at_place.
+      let meets = rw (c.given-path.ensures.same, c.given-place.ensures.same, c.forget_verdicts.ensures.forgotten) at c.in_ok-unit.ensures.meets in
+      λ root texts at_place tells once n enough.
+      meets texts root n (record { stands = at_place; tells = tells; matcher = refl; completes = completes_once as' once }) enough;
+  right =
+      let stays = rw c.given-place.ensures.same at c.in_ok-unit.ensures.stays in
+      λ root at_place.
       let p = c.args.place.now in
       let ns = numbered g.K.Validate.shape c.args.self.now in
       let c1 = c.forget_verdicts.new.self in
       stays (subject_in root) (root_lays_out root p (subject_of c.args.instance) at_place)
-      (none_right g.K.Validate.words g.K.Validate.is_whole ns (length c.args.self.now) (g.M.Matcher.matching c.args.matcher.now) c1.remembered.assumptions c1.remembered (subject_in root) c1.verdicts (ap (λ (z : Context). z.verdicts) c.forget_verdicts.ensures.forgotten)))
-      (rw c.given-place.ensures.same at c.evaluate_node.ensures.stays);
+      (none_right g.K.Validate.words g.K.Validate.is_whole ns (length c.args.self.now) (g.M.Matcher.matching c.args.matcher.now) c1.remembered.assumptions c1.remembered (subject_in root) c1.verdicts (ap (λ (z : Context). z.verdicts) c.forget_verdicts.ensures.forgotten));
 }
