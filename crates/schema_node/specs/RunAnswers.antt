@@ -19,7 +19,9 @@ use Rattle.schema_node_table.specs.NodeViews.{entry_of, form_of}
 use Rattle.schema_node_table.specs.declared.node.Entry.{Entry}
 use Rattle.schema_run_steps.specs.Askings.{Asking, asking}
 use Rattle.schema_run_steps.specs.NodeRuns.{form_at_work}
+use Rattle.schema_run_steps.specs.EntryUnits.{PlacesEntry}
 use Rattle.schema_run_steps.specs.declared.evaluation_order.EntryUnits.{EntryUnits}
+use Rattle.schema_run_steps.specs.declared.evaluation_order.UnitsInOrder.{UnitsInOrder}
 use Rattle.schema_run_steps.specs.declared.question.Engine.{Engine}
 use Rattle.schema_run_steps.specs.declared.question.NamedKeyword.{NamedKeyword}
 use Rattle.schema_run_steps.specs.declared.question.Question.{Question}
@@ -27,6 +29,10 @@ use Rattle.theory_runs.specs.Answered.{Answered, Answers, ChildReplied, EdgeRepl
 use Rattle.theory_runs.specs.RunStates.{Keeps, MeetsChild, MeetsEdge, MeetsForm, MeetsNode, NodeRemembers, NodeSays, PassesItsOwn, RunBorrows, Setting, StaysRight}
 use Rattle.theory_runs.specs.UnitStates.{ChildGives, ChildTells, EdgeGives, FindsRightly, FormGives, NodeGives}
 use Rattle.theory_runs.specs.Visits.{LeadsNowhere, NodeCounts}
+
+-- units for which P holds are added to these, with this priority
+abbrev pub PlacesSome : (EntryUnits → Type 0) → UnitsInOrder → ℕ → UnitsInOrder → Type 0
+PlacesSome P old priority new = (given : EntryUnits) × P given × PlacesEntry old priority given new
 
 -- ---- what stays the same in the context, if there is a result
 
@@ -124,6 +130,18 @@ module _ {C R K M E : Type 0} (k : keyword.Ghosts C R K) (m : matcher.Ghosts M) 
 
   abbrev pub UnitsOfEntries : ℕ → List (Entry C) → Context → Context → Result (List EvaluationNode) E → Type 0
   UnitsOfEntries i xs c c' result = PartsGiven (setting_by k m e) q i (map (shaped_part k.shape) (map entry_of xs)) c c' result
+
+  -- units for which P holds are placed, with this priority
+  abbrev pub PlacesFormUnits : ℕ → Text → NodeForm K → ℕ → UnitsInOrder → UnitsInOrder → Context → Context → {T : Type 0} → Result T E → Type 0
+  PlacesFormUnits i name form priority us us' c c' result = Replied (setting_by k m e) (asking q) c c' result
+      (λ _. PlacesSome (FormGives (setting_by k m e) (asking q) c i name form) us priority us')
+      (MeetsForm (setting_by k m e) (asking q) c c' i name form) (Spends c.work c'.work)
+
+  abbrev pub PlacesEntryUnits : ℕ → Entry C → UnitsInOrder → UnitsInOrder → Context → Context → {T : Type 0} → Result T E → Type 0
+  PlacesEntryUnits i x us us' c c' result = PlacesFormUnits i x.name (shaped_form k.shape (form_of x.form)) x.priority us us' c c' result
+
+  abbrev pub PlacesKeywordUnits : ℕ → NamedKeyword C → ℕ → UnitsInOrder → UnitsInOrder → Context → Context → {T : Type 0} → Result T E → Type 0
+  PlacesKeywordUnits i w priority us us' c c' result = PlacesFormUnits i w.name.now (form_at_work k.shape w) priority us us' c c' result
 
   -- the units of a form with this name
   abbrev pub UnitsOfForm : ℕ → Text → NodeForm K → Context → Context → Result (Box EntryUnits) E → Type 0

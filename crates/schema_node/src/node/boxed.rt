@@ -2,13 +2,13 @@
 //!
 //! No function here is inlined, so that a level of an evaluation takes little stack: what they build
 //! lies in their own frames, which end before the next level begins.
-ghost use Rattle.std.specs.Prelude.{◌≡◌, Bool, IfOk};
-ghost use Rattle.theory_definitions.specs.UnitOrder.{nothing_placed};
+ghost use Rattle.std.specs.Prelude.{◌≡◌, Bool, IfOk, OnOk};
 ghost use Rattle.theory_definitions.specs.Units.{false_unit, given_units, no_unit, true_unit};
 ghost use Rattle.schema_reports.specs.UnitViews.{unit_of};
 ghost use Rattle.schema_traits.specs.KeywordViews.{answer_of};
 ghost use Rattle.schema_run_steps.specs.Askings.{at_work};
-ghost use Rattle.schema_run_steps.specs.EntryUnits.{ListsInOrder, PlacesEntry, entry_units_of, placed_of};
+ghost use Rattle.schema_run_steps.specs.EntryUnits.{entry_units_of};
+ghost use Rattle.schema_node.specs.RunAnswers.{PlacesSome};
 ghost use Rattle.schema_run_steps.specs.PlaceWords.{pointer_here};
 ghost use Rattle.schema_run_steps.specs.ReplyWords.{SaysFalse};
 ghost use Rattle.schema_run_steps.specs.UnitWords.{AreUnitsOfReference, IsUnit, IsUnitAround};
@@ -16,7 +16,7 @@ ghost use Rattle.schema_run_steps.specs.UnitWords.{AreUnitsOfReference, IsUnit, 
 use schema_node_table::{KeywordName, Node};
 use schema_reports::{ChildList, EvaluationNode, OutOfMemory, SharedLocation};
 use schema_run_context::{UnitTexts, ValidationContext};
-use schema_run_steps::{EntryUnits, Question, UnitsInOrder};
+use schema_run_steps::{Question, UnitsInOrder, units_of_keyword, units_of_reference};
 use schema_traits::Answer;
 use std::alloc::Global;
 
@@ -74,78 +74,49 @@ pub(crate) fn entries_unit<K>(
     Ok(Box::new(alloc, unit)?)
 }
 
-/// Returns the units of a keyword and of the keywords that it absorbs.
+/// Adds the units of a keyword and of the keywords that it absorbs.
 #[inline(never)]
-pub(crate) fn units_of_keyword<K>(
+pub(crate) fn place_keyword<K>(
     alloc: Global,
     node: &Node<K>,
     name: &KeywordName,
+    priority: u8,
     question: &Question<'_, '_>,
     pointer: &SharedLocation,
     answer: Answer<'_>,
+    units: &mut UnitsInOrder,
     context: &mut ValidationContext<'_>,
-) -> Result<Box<EntryUnits>, OutOfMemory>
+) -> Result<(), OutOfMemory>
     requires pointed { pointer.now ≡ pointer_here question.now }
-    ensures units { IfOk result (λ units. (texts : Bool) → entry_units_of texts units.value
-        ≡ given_units (at_work node.now question.now) name.now (answer_of texts answer.entry).gives) }
+    ensures placed { OnOk result (PlacesSome (λ given. (texts : Bool) → entry_units_of texts given
+        ≡ given_units (at_work node.now question.now) name.now (answer_of texts answer.entry).gives) units.old priority units.new) }
     ensures stays { context.new ≡ context.old }
 {
-    let units = schema_run_steps::units_of_keyword(
-        alloc, node, name, question, pointer, answer, context,
-    )?;
-    Ok(Box::new(alloc, units)?)
+    let given = units_of_keyword(alloc, node, name, question, pointer, answer, context)?;
+    units.place(priority, given)
 }
 
-/// Returns the unit of a reference: its target's, at its own evaluation path.
+/// Adds the unit of a reference: its target's, at its own evaluation path.
 #[inline(never)]
-pub(crate) fn units_of_reference(
+pub(crate) fn place_reference(
     alloc: Global,
     name: &KeywordName,
+    priority: u8,
     question: &Question<'_, '_>,
     unit: Box<EvaluationNode>,
+    units: &mut UnitsInOrder,
     context: &mut ValidationContext<'_>,
-) -> Result<Box<EntryUnits>, OutOfMemory>
-    ensures units { IfOk result (λ units. AreUnitsOfReference question.now name.now unit.value units.value) }
+) -> Result<(), OutOfMemory>
+    ensures placed { OnOk result (PlacesSome (AreUnitsOfReference question.now name.now unit.value) units.old priority units.new) }
     ensures stays { context.new ≡ context.old }
 {
     let unit = Box::into_inner(unit);
-    let units = schema_run_steps::units_of_reference(alloc, name, question, unit, context)?;
-    Ok(Box::new(alloc, units)?)
-}
-
-/// Returns an empty list of units, with room for those of this many entries.
-#[inline(never)]
-pub(crate) fn no_units(alloc: Global, entries: usize) -> Result<Box<UnitsInOrder>, OutOfMemory>
-    ensures empty { IfOk result (λ u. (texts : Bool) → placed_of texts u.value ≡ nothing_placed) }
-{
-    let units = UnitsInOrder::new(alloc, entries)?;
-    Ok(Box::new(alloc, units)?)
-}
-
-/// Returns the units with those of the next entry, which has this priority.
-#[inline(never)]
-pub(crate) fn placed(
-    units: Box<UnitsInOrder>,
-    priority: u8,
-    given: Box<EntryUnits>,
-) -> Result<Box<UnitsInOrder>, OutOfMemory>
-    ensures placed { IfOk result (λ u. PlacesEntry units.value priority given.value u.value) }
-{
-    let mut more = units;
-    more.place(priority, Box::into_inner(given))?;
-    Ok(more)
-}
-
-/// Returns the units in their order.
-#[inline(never)]
-pub(crate) fn children_of(units: Box<UnitsInOrder>) -> Result<ChildList, OutOfMemory>
-    ensures children { IfOk result (ListsInOrder units.value) }
-{
-    Box::into_inner(units).into_children()
+    let given = units_of_reference(alloc, name, question, unit, context)?;
+    units.place(priority, given)
 }
 
 /// Drops units.
 #[inline(never)]
-pub(crate) fn dropped_units(units: Box<UnitsInOrder>) {
+pub(crate) fn dropped_units(units: UnitsInOrder) {
     drop(units);
 }

@@ -4,18 +4,18 @@
 //! never requests the unit of a child, by the law of the keyword type. A level takes little stack:
 //! units are boxed, and steps that ask nothing are not inlined.
 ghost use Rattle.schema_node.specs.Premises.{ChildMayEvaluate, EntriesMayEvaluate, EntryMayEvaluate, KeywordMayEvaluate, NodeMayEvaluate};
-ghost use Rattle.schema_node.specs.RunAnswers.{UnitOfChild, UnitOfEdge, UnitOfNode, UnitOfPlan, UnitsOfEntries, UnitsOfEntry};
-ghost use Rattle.schema_node.specs.RunAnswers.{UnitsOfKeyword};
+ghost use Rattle.schema_node.specs.RunAnswers.{PlacesEntryUnits, PlacesKeywordUnits, UnitOfChild, UnitOfEdge};
+ghost use Rattle.schema_node.specs.RunAnswers.{UnitOfNode, UnitOfPlan, UnitsOfEntries};
 
 use crate::node::boxed::{
-    accepting_unit, children_of, dropped_units, entries_unit, no_units, placed, refusing_unit,
-    unasked_unit, units_of_keyword, units_of_reference,
+    accepting_unit, dropped_units, entries_unit, place_keyword, place_reference, refusing_unit,
+    unasked_unit,
 };
 use crate::node::turns::keyword_answer;
 use schema_node_table::{Entry, EntryForm, NodeForm};
 use schema_reports::{ChildList, EvaluationNode, OutOfMemory, SharedLocation};
 use schema_run_context::{EvaluationPath, ValidationContext, child_edge};
-use schema_run_steps::{Engine, EntryUnits, GuardedPair, NamedKeyword, Question, one_below};
+use schema_run_steps::{Engine, GuardedPair, NamedKeyword, Question, UnitsInOrder, one_below};
 use schema_traits::{Below, Edge, Matcher, SchemaNode, Validate};
 
 // Returns the unit of a node at a place. Counts the node.
@@ -87,19 +87,20 @@ fn evaluate_entries<'i, K: Validate, M: Matcher>(
     requires { EntriesMayEvaluate K.Validate M.Matcher.own engine.now question.now context.old node.0 entries.now pointer.now }
     ensures { UnitsOfEntries K.Validate M.Matcher.own engine.now question.now node.0 entries.now context.old context.new result }
 {
-    let mut units = no_units(engine.alloc, entries.len())?;
+    let mut units = UnitsInOrder::new(engine.alloc, entries.len())?;
     for entry in entries {
-        match evaluate_entry(engine, node, entry, question, pointer, context) {
-            Ok(given) => units = placed(units, entry.priority, given)?,
+        match evaluate_entry(engine, node, entry, question, pointer, &mut units, context) {
+            Ok(_) => {}
             Err(refused) => {
                 dropped_units(units);
                 return Err(refused);
             }
         }
     }
-    children_of(units)
+    units.into_children()
 }
 
+// Adds the units of an entry to those of the entries before it.
 #[cycle(run)]
 fn evaluate_entry<'i, K: Validate, M: Matcher>(
     engine: &Engine<'_, K, M>,
@@ -107,10 +108,12 @@ fn evaluate_entry<'i, K: Validate, M: Matcher>(
     entry: &Entry<K>,
     question: &Question<'_, 'i>,
     pointer: &SharedLocation,
+    units: &mut UnitsInOrder,
     context: &mut ValidationContext<'i>,
-) -> Result<Box<EntryUnits>, OutOfMemory>
+) -> Result<(), OutOfMemory>
     requires { EntryMayEvaluate K.Validate M.Matcher.own engine.now question.now context.old node.0 entry.now pointer.now }
-    ensures { UnitsOfEntry K.Validate M.Matcher.own engine.now question.now node.0 entry.now context.old context.new result }
+    ensures { PlacesEntryUnits K.Validate M.Matcher.own engine.now question.now node.0 entry.now units.old units.new context.old
+        context.new result }
 {
     match &entry.form {
         EntryForm::Keyword(keyword, children) => {
@@ -119,7 +122,16 @@ fn evaluate_entry<'i, K: Validate, M: Matcher>(
                 keyword,
                 children: children.as_slice(),
             };
-            evaluate_keyword(engine, node, &named, question, pointer, context)
+            evaluate_keyword(
+                engine,
+                node,
+                &named,
+                entry.priority,
+                question,
+                pointer,
+                units,
+                context,
+            )
         }
         EntryForm::Reference(edge) => {
             let path = question.path.under_reference();
@@ -128,31 +140,45 @@ fn evaluate_entry<'i, K: Validate, M: Matcher>(
                 ..*question
             };
             let unit = evaluate_edge(engine, edge, &asked, context)?;
-            units_of_reference(engine.alloc, &entry.name, question, unit, context)
+            place_reference(
+                engine.alloc,
+                &entry.name,
+                entry.priority,
+                question,
+                unit,
+                units,
+                context,
+            )
         }
     }
 }
 
+// Adds the units of a keyword to those of the entries before it.
 #[cycle(run)]
 fn evaluate_keyword<'i, K: Validate, M: Matcher>(
     engine: &Engine<'_, K, M>,
     node: SchemaNode,
     keyword: &NamedKeyword<'_, K>,
+    priority: u8,
     question: &Question<'_, 'i>,
     pointer: &SharedLocation,
+    units: &mut UnitsInOrder,
     context: &mut ValidationContext<'i>,
-) -> Result<Box<EntryUnits>, OutOfMemory>
+) -> Result<(), OutOfMemory>
     requires { KeywordMayEvaluate K.Validate M.Matcher.own engine.now question.now context.old node.0 keyword.now pointer.now }
-    ensures { UnitsOfKeyword K.Validate M.Matcher.own engine.now question.now node.0 keyword.now context.old context.new result }
+    ensures { PlacesKeywordUnits K.Validate M.Matcher.own engine.now question.now node.0 keyword.now priority units.old units.new
+        context.old context.new result }
 {
     let answer = keyword_answer(engine, node, keyword, question, context)?;
-    units_of_keyword(
+    place_keyword(
         engine.alloc,
         engine.nodes.node(node),
         keyword.name,
+        priority,
         question,
         pointer,
         answer,
+        units,
         context,
     )
 }

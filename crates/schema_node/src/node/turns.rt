@@ -2,7 +2,8 @@
 //!
 //! A child that is requested in the mode for units is evaluated, and any other child is run.
 //!
-//! A keyword's turn is not inlined here, so that a level of a run takes little stack.
+//! Three loops take turns. LLVM does not inline a keyword's turn that two places call, so turns
+//! that are taken often are marked `#[inline(always)]`.
 ghost use Rattle.std.specs.Prelude.{◌≡◌, All, Bool, IfOk, OnOk};
 ghost use Rattle.serde_json.specs.Data.{Data};
 ghost use Rattle.schema_reports.specs.InstanceViews.{subject_of};
@@ -48,11 +49,10 @@ pub(crate) fn keyword_answer<'i, K: Validate, M: Matcher>(
         node,
         keyword,
         question,
-        &mut *run,
+        &mut run,
         &mut answer,
         context,
     );
-    end(run);
     context.put_back(aside);
     match turned {
         Ok(_) => Ok(answer),
@@ -63,47 +63,18 @@ pub(crate) fn keyword_answer<'i, K: Validate, M: Matcher>(
     }
 }
 
-// Begins a run. It is boxed, and this is not inlined, so that a level takes little stack.
+// Begins a run. Not inlined, so that a level does not pay for the stack frames of keywords.
 #[inline(never)]
 fn begin<K: Validate>(
     alloc: Global,
     keyword: &K,
     instance: Instance<'_>,
     mode: Mode,
-) -> Result<Box<K::Run>, OutOfMemory>
+) -> Result<K::Run, OutOfMemory>
     ensures begins { IfOk result (λ run. (texts : Bool)
-        → (K.words texts).begin (K.shape keyword.now) (subject_of instance.entry) (mode_of mode) ≡ (run.value, fresh (mode_of mode))) }
+        → (K.words texts).begin (K.shape keyword.now) (subject_of instance.entry) (mode_of mode) ≡ (run, fresh (mode_of mode))) }
 {
-    let run = keyword.begin(alloc, instance, mode)?;
-    Ok(Box::new(alloc, run)?)
-}
-
-// Ends a run. Not inlined, for the same reason.
-#[inline(never)]
-fn end<R: Drop>(run: Box<R>) {
-    drop(run);
-}
-
-// Takes a turn of a run. Not inlined, for the same reason.
-#[inline(never)]
-fn turn<'s, 'i: 's, K: Validate>(
-    alloc: Global,
-    keyword: &'s K,
-    run: &mut K::Run,
-    instance: Instance<'i>,
-    reply: Reply<'i>,
-    answer: &mut Answer<'i>,
-) -> Result<Step<'s>, OutOfMemory>
-    ensures turns { OnOk result ((texts : Bool) → Tells texts (K.is_whole (K.shape keyword.now)) (subject_of instance.entry)
-        → (K.words texts).turn (K.shape keyword.now) (subject_of instance.entry) (run.old, answer_of texts answer.old)
-        (reply_of texts reply.entry) ≡ (run.new, answer_of texts answer.new)) }
-    ensures steps { IfOk result (λ step. (texts : Bool) → Tells texts (K.is_whole (K.shape keyword.now)) (subject_of instance.entry)
-        → (K.words texts).step (K.shape keyword.now) (subject_of instance.entry) (run.old, answer_of texts answer.old)
-        (reply_of texts reply.entry) ≡ turn_of step) }
-    ensures borrows { OnOk result ((root : Data) → All (BorrowsItsPlace root) (errors_in reply.entry)
-        → All (PassesBorrowed root) (faults_in answer.old) → All (PassesBorrowed root) (faults_in answer.new)) }
-{
-    keyword.turn(alloc, run, instance, reply, answer)
+    keyword.begin(alloc, instance, mode)
 }
 
 // Takes the turns of a keyword's run that has begun, which complete its answer.
@@ -127,14 +98,9 @@ fn run_turns<'i, K: Validate, M: Matcher>(
     let mut refusals = 1;
     'turns: loop {
         refusals = refusals_after(refusals, &reply);
-        let step = turn(
-            engine.alloc,
-            keyword.keyword,
-            run,
-            question.instance,
-            reply,
-            answer,
-        )?;
+        let step = keyword
+            .keyword
+            .turn(engine.alloc, run, question.instance, reply, answer)?;
         match step {
             Step::Ask(child, below, wanted) => {
                 let asked = Question {
