@@ -2,9 +2,8 @@
 """Runs the official test suite of JSON Schema: python3 tools/suite.py PROGRAM [--suite FOLDER] [--optional] [--draft N] [--left-out]
 
 PROGRAM is bowtie_harness, as `rt run` leaves it in out/, or another program that speaks its protocol. FOLDER is the suite, with `tests` and
-`remotes`; `tests` has a folder for each draft. Without it the newer of Debian's two packages is taken that is there,
-libtest-json-schema-acceptance-perl or json-schema-test-suite; the first line printed names it. Drafts 4, 6, 7, 2019-09 and 2020-12 are run, those
-that the folder has.
+`remotes`, as Debian's package json-schema-test-suite has it, or of a newer state: `tests` has a folder for each draft. Drafts 4, 6, 7,
+2019-09 and 2020-12 are run, those that the folder has.
 
 Each group of tests is a case: its schema, the instances, and the suite's documents as the registry, under http://localhost:1234/. A group is
 left out whose schema the program refuses since it says of a keyword that it is not supported. So are optional groups on formats and contents
@@ -30,12 +29,7 @@ DRAFTS = {
     "draft2019-09": "https://json-schema.org/draft/2019-09/schema",
     "draft2020-12": "https://json-schema.org/draft/2020-12/schema",
 }
-# the newer one first; the older has no newer drafts
-SUITES = (
-    "/usr/share/perl5/auto/share/dist/Test-JSON-Schema-Acceptance",
-    "/usr/share/json-schema-test-suite",
-)
-SUITE = next((folder for folder in SUITES if os.path.isdir(folder)), SUITES[0])
+SUITE = "/usr/share/json-schema-test-suite"
 REMOTES = "http://localhost:1234/"
 # the folders of the suite that are a draft's own, whether its tests are run or not
 OWN_FOLDERS = [*DRAFTS, "draft3", "draft-next", "v1"]
@@ -222,7 +216,6 @@ def main():
     parser.add_argument("--draft", action="append", choices=[name.removeprefix("draft") for name in DRAFTS], metavar="N", help="run this draft alone")
     parser.add_argument("--left-out", action="store_true", help="name each group that is left out")
     given = parser.parse_args()
-    print(f"suite: {given.suite}")
     suite = Suite(given.left_out)
     for draft in DRAFTS:
         if given.draft and draft.removeprefix("draft") not in given.draft:

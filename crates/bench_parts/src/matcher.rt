@@ -128,5 +128,5 @@ impl Matcher for BenchMatcher {
         self.unfinished.is_empty()
     }
 
-    ghost cloned = { λ m n same. (ap bench_matcher same, ap leaves_none same) };
+    ghost cloned = { λ m n same. ap bench_matcher same };
 }

@@ -137,5 +137,5 @@ impl Matcher for PatternMatcher {
         self.treatment.finishes()
     }
 
-    ghost cloned = { λ m n same. (ap (λ k. pattern_matcher k) same, ap (λ k. finishes_each k) same) };
+    ghost cloned = { λ m n same. ap (λ k. pattern_matcher k) same };
 }

@@ -60,7 +60,7 @@ module _ {K R : Type 0} (keywords : Keywords K R) (matcher : Matcher) (nodes nod
         (elim x' [ node_always ↦ accepted | node_never ↦ false_outcome keywords.texts (node_at keywords matcher nodes' subject_of i path p) (subject_of p) | node_these xs ↦ kept (node_parts keywords matcher nodes' subject_of c i path p go xs) ])
     plan_outcome node_always node_always h = refl
     plan_outcome node_never node_never h = let place = at_same i path p in λ j. false_outcome keywords.texts (place j) (subject_of p)
-    plan_outcome (node_these xs) (node_these xs') h = let all = parts_same xs xs' h in λ j. kept (all j)
+    plan_outcome (node_these xs) (node_these xs') h = parts_same xs xs' h
     plan_outcome node_always node_never h = absurd h
     plan_outcome node_always (node_these xs) h = absurd h
     plan_outcome node_never node_always h = absurd h

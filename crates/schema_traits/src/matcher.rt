@@ -16,7 +16,7 @@ use unfinished_matches::Match;
 /// A regular expression engine.
 ///
 /// Unless they run out of memory, `is_match` and `is_valid_ecma_regex` are functions of their
-/// arguments. A clone returns the same answers, and says the same of itself.
+/// arguments. A clone returns the same answers.
 pub trait Matcher: Clone + Drop {
     ghost matching: { Self → spec.Matcher };
 
@@ -41,5 +41,5 @@ pub trait Matcher: Clone + Drop {
         ensures finishes { result ≡ true → FinishesEach (matching self.now) }
         ensures says { result ≡ finishing self.now };
 
-    ghost cloned: { (m n : Self) → Self.is_clone m n → (matching n ≡ matching m) × (finishing n ≡ finishing m) };
+    ghost cloned: { (m n : Self) → Self.is_clone m n → matching n ≡ matching m };
 }

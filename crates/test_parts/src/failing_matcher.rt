@@ -65,5 +65,5 @@ impl Matcher for FailingMatcher {
         false
     }
 
-    ghost cloned = { λ m n same. (refl, refl) };
+    ghost cloned = { λ m n same. refl };
 }

@@ -26,6 +26,7 @@ mod SameTurns
 pub mod Alike
 mod Steps
 mod KeysAlike
+mod PlanMet
 mod Plans
 mod Senses
 pub mod Sentences
