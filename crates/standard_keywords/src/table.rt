@@ -10,7 +10,7 @@ ghost use Rattle.standard_keywords.specs.declared.patterns.UnreadablePatterns.Th
 
 use crate::family::Family;
 use crate::patterns::{UnreadablePatterns, pattern_refusal};
-use crate::steps::{applicator_step, assertion_step, basic_step, format_step, pattern_step};
+use crate::steps::step_in;
 use crate::treatment::{Treatment, refusal_text, treatment_of};
 use keyword_authoring::Telling;
 use keyword_makers::{Ending, PathsMaker, ends, refused, value_in};
@@ -224,11 +224,26 @@ impl KeywordTable<StandardKeyword> for StandardTable {
         reply: MakerReply,
     ) -> Result<MakerStep<StandardKeyword>, OutOfMemory> {
         match maker {
-            Family::Assertion(maker) => Ok(assertion_step(maker.turn(alloc, reply)?)),
-            Family::Applicator(maker) => Ok(applicator_step(maker.turn(alloc, reply)?)),
-            Family::PatternProperties(maker) => Ok(pattern_step(maker.turn(alloc, reply)?)),
-            Family::Format(maker) => Ok(format_step(maker.turn(alloc, reply)?)),
-            Family::Basic(maker) => Ok(basic_step(maker.turn(alloc, reply)?)),
+            Family::Assertion(maker) => {
+                let step = maker.turn(alloc, reply)?;
+                Ok(step_in(step, |keyword| Family::Assertion(keyword)))
+            }
+            Family::Applicator(maker) => {
+                let step = maker.turn(alloc, reply)?;
+                Ok(step_in(step, |keyword| Family::Applicator(keyword)))
+            }
+            Family::PatternProperties(maker) => {
+                let step = maker.turn(alloc, reply)?;
+                Ok(step_in(step, |keyword| Family::PatternProperties(keyword)))
+            }
+            Family::Format(maker) => {
+                let step = maker.turn(alloc, reply)?;
+                Ok(step_in(step, |keyword| Family::Format(keyword)))
+            }
+            Family::Basic(maker) => {
+                let step = maker.turn(alloc, reply)?;
+                Ok(step_in(step, |keyword| Family::Basic(keyword)))
+            }
         }
     }
 
