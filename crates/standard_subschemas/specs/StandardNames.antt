@@ -81,14 +81,13 @@ known_in_all =
     ∷ codes "format" ∷ codes "uniqueItems" ∷ codes "properties" ∷ codes "patternProperties" ∷ codes "additionalProperties"
     ∷ codes "items" ∷ codes "additionalItems" ∷ codes "dependencies" ∷ codes "allOf" ∷ codes "anyOf" ∷ codes "oneOf" ∷ codes "not" ∷ []
 
--- the names that draft 6 adds; the standard added `contentEncoding` and `contentMediaType` in draft
--- 7, but the table of keywords has them in draft 6, like the Rust crate `jsonschema`
+-- the names that draft 6 adds
 abbrev pub new_in_6 : List Text
-new_in_6 = codes "$id" ∷ codes "const" ∷ codes "contentEncoding" ∷ codes "contentMediaType" ∷ codes "propertyNames" ∷ codes "contains" ∷ []
+new_in_6 = codes "$id" ∷ codes "const" ∷ codes "propertyNames" ∷ codes "contains" ∷ []
 
 -- the names that draft 7 adds
 abbrev pub new_in_7 : List Text
-new_in_7 = codes "$comment" ∷ codes "if" ∷ codes "then" ∷ codes "else" ∷ []
+new_in_7 = codes "$comment" ∷ codes "if" ∷ codes "then" ∷ codes "else" ∷ codes "contentEncoding" ∷ codes "contentMediaType" ∷ []
 
 -- the names that 2019-09 adds
 abbrev pub new_in_2019_09 : List Text

@@ -141,8 +141,6 @@ fn is_new_in_6(name: &str) -> bool
         &[
             "$id",
             "const",
-            "contentEncoding",
-            "contentMediaType",
             "propertyNames",
             "contains",
         ],
@@ -153,7 +151,17 @@ fn is_new_in_6(name: &str) -> bool
 fn is_new_in_7(name: &str) -> bool
     ensures known { result ≡ list_any (bytes_eq name.now) new_in_7 }
 {
-    is_among(name, &["$comment", "if", "then", "else"])
+    is_among(
+        name,
+        &[
+            "$comment",
+            "if",
+            "then",
+            "else",
+            "contentEncoding",
+            "contentMediaType",
+        ],
+    )
 }
 
 /// Returns whether drafts know this name from 2019-09 on.
