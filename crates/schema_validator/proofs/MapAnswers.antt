@@ -64,6 +64,7 @@ module _ {S K R C M : Type 0} (h : Handed S K R C M) (options : Options) (schema
             greatest = of_each h options schema root law is_root declared document stands m held _ (λ k p alone. alone.greatest);
             solver = of_each h options schema root law is_root declared document stands m held _ (λ k p alone. alone.solver);
             programs = of_each h options schema root law is_root declared document stands m held _ (λ k p alone. (alone.within, alone.program));
-            at_each = holds_each h options schema root law is_root declared document stands m held fit (λ k p alone. record { means = alone.means; units = alone.units; points = alone.points; units_point = alone.units_point; greatest = alone.greatest; solver = alone.solver; within = alone.within; program = alone.program });
+            finishing = of_each h options schema root law is_root declared document stands m held _ (λ k p alone. alone.finishing);
+            at_each = holds_each h options schema root law is_root declared document stands m held fit (λ k p alone. record { means = alone.means; units = alone.units; points = alone.points; units_point = alone.units_point; greatest = alone.greatest; solver = alone.solver; within = alone.within; program = alone.program; finishing = alone.finishing });
             builds = is_built refuses accepted;
           }

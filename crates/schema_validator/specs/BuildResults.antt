@@ -4,13 +4,13 @@ use Rattle.std.specs.Prelude.{ℕ}
 use Rattle.serde_json.specs.Data.{Data}
 use Rattle.schema_keys.specs.Checking.{MetaChecks}
 use Rattle.schema_keys.specs.declared.error.BuildError.{BuildError}
-use Rattle.schema_validator.specs.Called.{BuildRefused, HasPlainUnits, IsCompiledFrom, MeansPlainly, PointsPlainly, SchemaBuilds, UnitsPointPlainly}
+use Rattle.schema_validator.specs.Called.{BuildRefused, FinishesAlike, HasPlainUnits, IsCompiledFrom, MeansPlainly, PointsPlainly, SchemaBuilds, UnitsPointPlainly}
 use Rattle.schema_validator.specs.Checked.{PassesCheck}
 use Rattle.schema_validator.specs.FirstCauses.{FirstOfBuild, FirstOfMap}
 use Rattle.schema_validator.specs.Greatest.{AcceptsAsSchema}
 use Rattle.schema_validator.specs.Handed.{Handed, Options}
 use Rattle.schema_validator.specs.MapViews.{Entries}
-use Rattle.schema_validator.specs.Mapped.{EachAcceptsGreatest, EachHasPlainUnits, EachHasSolver, EachIsCompiledFrom, EachMeansPlainly, EachPointsPlainly}
+use Rattle.schema_validator.specs.Mapped.{EachAcceptsGreatest, EachFinishesAlike, EachHasPlainUnits, EachHasSolver, EachIsCompiledFrom, EachMeansPlainly, EachPointsPlainly}
 use Rattle.schema_validator.specs.Mapped.{EachsUnitsPoint, HoldsCompiled, HoldsEach, MapIsBuilt, MapRefused}
 use Rattle.schema_compiled.specs.Program.{Program}
 use Rattle.schema_compiled.specs.Solved.{HasSolver}
@@ -33,6 +33,8 @@ module _ {S K R C M : Type 0} (h : Handed S K R C M) (refuses : MetaChecks) (opt
     -- its nodes are those of the keys that the root's key reaches, with this limit on nested
     -- targets; its draft is the root's, and its matcher answers as the one of the parts
     pub program : IsCompiledFrom h options schema nested p
+    -- that matcher says that it finishes every match exactly if the one of the parts does
+    pub finishing : FinishesAlike h options schema p
     -- it has a solver
     pub solver : HasSolver p
     -- there is no cause to refuse what the root reaches, and that is within the limit
@@ -69,6 +71,8 @@ module _ {S K R C M : Type 0} (h : Handed S K R C M) (refuses : MetaChecks) (opt
     pub solver : EachHasSolver h options schema es
     -- the nodes of each are those of the keys that its own key reaches, which are within the limit
     pub programs : EachIsCompiledFrom h options schema es
+    -- the matcher of each says that it finishes every match exactly if the one of the parts does
+    pub finishing : EachFinishesAlike h options schema es
     -- each object or boolean of the document that compiles has a validator of its own key under its
     -- own name
     pub at_each : HoldsEach h options schema es

@@ -1,7 +1,7 @@
 -- The answers of a build about a schema, and of the calls about schema and instance: the sentences
 -- that their clauses cite, over the parts. They are those of `Promised`, `ProgramOf`, `Roots`,
 -- `Spoken` and `Pointing`.
-use Rattle.std.specs.Prelude.{Bool, List, Option, ℕ, ◌⊎◌}
+use Rattle.std.specs.Prelude.{Bool, List, Option, ℕ, ◌≡◌, ◌⊎◌}
 use Rattle.serde_json.specs.Data.{Data}
 use Rattle.theory_definitions.specs.Cover.{Sense, is_valid}
 use Rattle.theory_meaning.specs.Headline.{IsValidAnswer, Plainly, PlainlyWithUnits, VerdictSays}
@@ -52,6 +52,10 @@ module _ {S K R C M : Type 0} (h : Handed S K R C M) (options : Options) (schema
   -- final; its draft is the root's, and its matcher answers as the one of the parts
   abbrev pub IsCompiledFrom : ℕ → Program C M → Type 0
   IsCompiledFrom nested p = IsProgramOf h.resolver h.table h.matcher options nested schema h.shape h.matching p
+
+  -- its matcher says that it finishes every match exactly if the one of the parts does
+  abbrev pub FinishesAlike : Program C M → Type 0
+  FinishesAlike p = h.finishing p.matcher ≡ h.finishes
 
   -- there is no cause to refuse what the root reaches, and that is within the limit
   abbrev pub SchemaBuilds : Type 0

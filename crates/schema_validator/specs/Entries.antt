@@ -59,6 +59,7 @@ module _ {S K R C M : Type 0} (h : Handed S K R C M) (options : Options) (schema
     pub greatest : AcceptsAsKey h options key p
     pub solver : HasSolver p
     pub program : IsProgramFrom h.resolver h.table h.matcher options options.nested schema h.shape h.matching key p
+    pub finishing : h.finishing p.matcher ≡ h.finishes
     pub within : length p.nodes ≤ options.limit
     pub compiles : (texts : Bool) (cause : Cause) → ¬ (StandsBelow (parts h options texts) key cause)
 

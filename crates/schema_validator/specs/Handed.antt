@@ -76,6 +76,9 @@ pub record Handed (S K R C M : Type 0) : Type 0 where
   pub is_whole : K → Bool
   pub says_monotone : K → Bool
   pub matching : M → Matcher
+  -- whether a matcher says that it finishes every match, and whether the one of the parts does
+  pub finishing : M → Bool
+  pub finishes : Bool
 
 -- the data of these values of the code, by the members of their traits
 abbrev pub handed : {A State S T C Maker Run K M : Type 0} → ResolverMembers A State S → TableMembers T C Maker Run K → KeywordMembers C Run K → MatcherMembers M
@@ -89,4 +92,6 @@ handed resolvers tables keywords matchers resolver table matcher = record {
   is_whole = keywords.is_whole;
   says_monotone = keywords.says_monotone;
   matching = matchers.matching;
+  finishing = matchers.finishing;
+  finishes = matchers.finishing matcher;
 }

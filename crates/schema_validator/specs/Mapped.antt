@@ -84,6 +84,10 @@ module _ {S K R C M : Type 0} (h : Handed S K R C M) (options : Options) (schema
   abbrev pub EachIsCompiledFrom : Entries (Program C M) → Type 0
   EachIsCompiledFrom es = OfEach es (λ key p. (length p.nodes ≤ options.limit) × IsProgramFrom h.resolver h.table h.matcher options options.nested schema h.shape h.matching key p)
 
+  -- that matcher says that it finishes every match exactly if the one of the parts does
+  abbrev pub EachFinishesAlike : Entries (Program C M) → Type 0
+  EachFinishesAlike es = OfEach es (λ key p. h.finishing p.matcher ≡ h.finishes)
+
   -- all of this, of a validator and the key that it is compiled from
   pub record IsValidatorOf (key : Key S) (p : Program C M) : Type 0 where
     pub means : MeansKey h.resolver h.table h.matcher h.words options key h.shape h.is_whole h.matching p
@@ -94,6 +98,7 @@ module _ {S K R C M : Type 0} (h : Handed S K R C M) (options : Options) (schema
     pub solver : HasSolver p
     pub within : length p.nodes ≤ options.limit
     pub program : IsProgramFrom h.resolver h.table h.matcher options options.nested schema h.shape h.matching key p
+    pub finishing : h.finishing p.matcher ≡ h.finishes
 
   -- each object or boolean of the document that compiles has a validator of its own key under its
   -- own name: no two places have one name

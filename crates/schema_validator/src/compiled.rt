@@ -40,6 +40,7 @@ pub(crate) fn of_compiled_within<S: Resolver, T: KeywordTable<K>, K: Validate, M
     ensures work { IfOk result (λ v. v.work ≡ limits.work) }
     ensures solver { IfOk result (λ v. v.followed ≡ finder) }
     ensures matcher { IfOk result (λ v. M.matching v.matcher ≡ M.matching matcher.now) }
+    ensures finishing { IfOk result (λ v. M.finishing v.matcher ≡ M.finishing matcher.now) }
     ensures means { IfOk result (MeansAsCompiled (handed S.Resolver T.KeywordTable K.Validate M.Matcher.own
         resolver.now table.now matcher.now) nodes root.0) }
     ensures units { IfOk result (HasUnitsAsCompiled (handed S.Resolver T.KeywordTable K.Validate M.Matcher.own

@@ -12,8 +12,8 @@ impl<K: CloneKeyword, M: Matcher> CompiledSchema<K, M> {
     /// Returns a clone of the compiled schema, which returns the same answers.
     ///
     /// It has the same root, draft, limits, and numbers that its solver inlines. Its nodes are the
-    /// same except for their keywords, which have the shapes of the originals, and its matcher
-    /// matches alike.
+    /// same except for their keywords, which have the shapes of the originals. Its matcher matches
+    /// alike, and says alike whether it finishes every match.
     ///
     /// # Errors
     ///
@@ -23,6 +23,7 @@ impl<K: CloneKeyword, M: Matcher> CompiledSchema<K, M> {
         ensures draft { IfOk result (λ copy. copy.draft ≡ self.now.draft) }
         ensures nodes { IfOk result (λ copy. shaped_nodes K.shape copy.nodes ≡ shaped_nodes K.shape self.now.nodes) }
         ensures matcher { IfOk result (λ copy. M.matching copy.matcher ≡ M.matching self.now.matcher) }
+        ensures finishing { IfOk result (λ copy. M.finishing copy.matcher ≡ M.finishing self.now.matcher) }
         ensures solver { IfOk result (λ copy. copy.followed ≡ self.now.followed) }
         ensures runs { IfOk result (λ copy. copy.runs ≡ self.now.runs) }
         ensures work { IfOk result (λ copy. copy.work ≡ self.now.work) }

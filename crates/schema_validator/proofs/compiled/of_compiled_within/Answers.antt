@@ -64,3 +64,6 @@ returns-clause-units g c = λ options root compiled instance texts speaks.
 
 pub returns-clause-matcher : goal.returns-clause-matcher
 returns-clause-matcher g c = ap (λ (p : Program g.row.K.Denot g.row.M.Denot). g.M.Matcher.matching p.matcher) c.of_nodes_within.ensures.made ∙ (g.met.M.Matcher.cloned c.args.matcher.now c.in_ok-matcher.matcher c.in_ok-matcher.ensures.cases).0
+
+pub returns-clause-finishing : goal.returns-clause-finishing
+returns-clause-finishing g c = ap (λ (p : Program g.row.K.Denot g.row.M.Denot). g.M.Matcher.finishing p.matcher) c.of_nodes_within.ensures.made ∙ (g.met.M.Matcher.cloned c.args.matcher.now c.in_ok-matcher.matcher c.in_ok-matcher.ensures.cases).1

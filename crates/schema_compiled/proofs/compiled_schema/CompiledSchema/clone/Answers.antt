@@ -15,6 +15,12 @@ invariant_of-result g c =
 pub returns-clause-solver : goal.returns-clause-solver
 returns-clause-solver g c = c.in_ok-clone-3.ensures.same ∙ ap (λ (p : Program g.row.K.Denot g.row.M.Denot). p.followed) c.self.view_is
 
+pub returns-clause-matcher : goal.returns-clause-matcher
+returns-clause-matcher g c = (g.met.M.Matcher.cloned c.self.inside.matcher c.in_ok-clone-2.field-0 c.in_ok-clone-2.ensures.cases).0 ∙ ap (λ (p : Program g.row.K.Denot g.row.M.Denot). g.M.Matcher.matching p.matcher) c.self.view_is
+
+pub returns-clause-finishing : goal.returns-clause-finishing
+returns-clause-finishing g c = (g.met.M.Matcher.cloned c.self.inside.matcher c.in_ok-clone-2.field-0 c.in_ok-clone-2.ensures.cases).1 ∙ ap (λ (p : Program g.row.K.Denot g.row.M.Denot). g.M.Matcher.finishing p.matcher) c.self.view_is
+
 pub returns-clause-says : goal.returns-clause-says
 returns-clause-says g c =
     let same = c.self.view_is in

@@ -79,6 +79,7 @@ returns-clause-built g c =
       units_point = units_point_into h.resolver h.table h.matcher k.words options schema k.shape g.M.Matcher.matching validator k.absorbed k.is_whole keeps right g.met.K.Validate.hands_units_on program;
       greatest = accepts_as_schema h each_keeps (g.met.S.Resolver.same c.args.resolver.now) options schema validator program;
       program = program;
+      finishing = made.finishing;
       solver = solves_made nodes c.in_ok-finder.finder validator made.made.0 made.solver c.in_ok-finder.ensures.made c.in_ok-finder.ensures.follows;
       builds = λ texts.
           let is_root = root_key_too h.resolver no_table h.table no_matcher h.matcher no_keywords (k.words texts) options schema key is_key in

@@ -78,6 +78,7 @@ returns g c =
       greatest = accepts_as_key h keeps (g.met.S.Resolver.same self.resolver.now) options schema c.in_ok-validator.validator key program;
       solver = solves_made nodes c.in_ok-finder.finder c.in_ok-validator.validator made.0 c.in_ok-validator.ensures.solver c.in_ok-finder.ensures.made c.in_ok-finder.ensures.follows;
       program = program;
+      finishing = c.in_ok-validator.ensures.finishing;
       within = subst (λ (ns : List (NodeEntry g.row.K.Denot)). length ns ≤ options.limit) (sym made.0) within;
       compiles = λ texts. alone_in r owns script m (k.words texts) options k.shape options.limit options.nested key keys nodes (done texts);
     }
