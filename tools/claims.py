@@ -51,7 +51,7 @@ SCOPE = (
     "pattern_matcher::is_readable",
     "standard_keywords::StandardTable",
     "standard_meta::MetaDocuments",
-    "standard_meta::StandardMeta",
+    "standard_meta::MetaSchemas",
     "jsonschema",
     "text_formats::Format",
 )
@@ -336,6 +336,11 @@ def in_scope(path):
     return any(f"{path}::".startswith(f"{part}::") for part in SCOPE)
 
 
+def known_as(name, item, found):
+    """A function's path without its modules; with its crate's name, if a crate before has a function of that name."""
+    return f"{name}::{item.short()}" if item.kind == "fn" and item.short() in found else item.short()
+
+
 def wanted_claims():
     """The clauses of each public call and the laws of each trait, by the call's path without its modules."""
     found = {}
@@ -345,7 +350,7 @@ def wanted_claims():
             if not item.public or not in_scope(f"{name}::{item.short()}"):
                 continue
             if item.kind in ("fn", "method", "trait fn"):
-                found[item.short()] = set(item.clauses) | {f"asks {a}" for a in item.asks}
+                found[known_as(name, item, found)] = set(item.clauses) | {f"asks {a}" for a in item.asks}
         for trait, laws in crate.laws().items():
             short = trait.split("::")[-1]
             if laws[0].public and in_scope(f"{name}::{short}"):
@@ -385,7 +390,7 @@ def contracts():
     for name in dict.fromkeys(part.split("::")[0] for part in SCOPE):
         for item in Crate(name).items:
             if item.public and item.kind in ("fn", "method", "trait fn") and in_scope(f"{name}::{item.short()}"):
-                found[item.short()] = item.contract()
+                found[known_as(name, item, found)] = item.contract()
     return found
 
 

@@ -1,18 +1,15 @@
 //! Cases: a schema, documents that its references may lead to, and instances.
 
 use bowtie_protocol::{Case, Engine, Judge};
-use jsonschema::{
-    BuildError, MetaDocuments, Sources, StandardMeta, StandardValidator, ValidationOptions, build,
-};
+use jsonschema::{BuildError, BuildOptions, MetaSchemas, StandardValidator, options};
 use schema_engine::{Draft, OutOfMemory};
 use serde_json::Value;
 use std::alloc::Global;
 
-/// The meta-schemas, and the check against them.
+/// The engine with the standard's keywords, and the check by the meta-schemas.
 #[derive(Clone, Copy)]
 pub(crate) struct Harness<'h> {
-    pub documents: &'h MetaDocuments,
-    pub metas: &'h StandardMeta,
+    pub(crate) metas: &'h MetaSchemas,
 }
 
 /// The validator of a case.
@@ -27,32 +24,19 @@ impl Judge for Asked<'_> {
     }
 }
 
-/// Adds the documents of a case's registry.
-fn with_registry<'c>(
+/// Returns the options of a case: its draft, and the documents of its registry.
+fn chosen_by<'c>(
     alloc: Global,
-    sources: Sources<'c>,
+    draft: Draft,
     body: &'c Value,
-) -> Result<Sources<'c>, OutOfMemory> {
-    let mut sources = sources;
+) -> Result<BuildOptions<'c>, OutOfMemory> {
+    let mut chosen = options(alloc).with_default_draft(draft);
     if let Some(registry) = body.get("registry").and_then(Value::as_object) {
         for (uri, document) in registry.iter() {
-            sources = sources.with_document(alloc, uri.as_str(), document)?;
+            chosen = chosen.with_document(uri.as_str(), document)?;
         }
     }
-    Ok(sources)
-}
-
-/// Returns the schema of a case, with the documents of its registry.
-///
-/// The meta-schemas are among the documents too.
-fn sources_of<'c>(
-    alloc: Global,
-    documents: &'c MetaDocuments,
-    draft: Draft,
-    case: Case<'c>,
-) -> Result<Sources<'c>, OutOfMemory> {
-    let sources = Sources::new(alloc, case.schema).with_default_draft(draft);
-    with_registry(alloc, sources, case.body)?.with_meta_schemas(alloc, documents)
+    Ok(chosen)
 }
 
 /// Answers a case whose schema is refused.
@@ -61,33 +45,23 @@ fn refuse(alloc: Global, case: Case<'_>, refused: &BuildError) -> Result<Value, 
     case.fault(alloc, text.as_str())
 }
 
-fn answer_by_sources(
-    alloc: Global,
-    metas: &StandardMeta,
-    case: Case<'_>,
-    sources: Sources<'_>,
-) -> Result<Value, OutOfMemory> {
-    let options = ValidationOptions::new(alloc);
-    match build(alloc, sources, metas, options) {
-        Ok(validator) => {
-            let asked = Asked {
-                validator: &validator,
-            };
-            let answer = case.results(alloc, &asked);
-            drop(validator);
-            answer
-        }
-        Err(refused) => {
-            let answer = refuse(alloc, case, &refused);
-            drop(refused);
-            answer
-        }
-    }
-}
-
 impl Engine for Harness<'_> {
     fn answer(&self, alloc: Global, draft: Draft, case: Case<'_>) -> Result<Value, OutOfMemory> {
-        let sources = sources_of(alloc, self.documents, draft, case)?;
-        answer_by_sources(alloc, self.metas, case, sources)
+        let chosen = chosen_by(alloc, draft, case.body)?;
+        match chosen.build_by(self.metas, case.schema) {
+            Ok(validator) => {
+                let asked = Asked {
+                    validator: &validator,
+                };
+                let answer = case.results(alloc, &asked);
+                drop(validator);
+                answer
+            }
+            Err(refused) => {
+                let answer = refuse(alloc, case, &refused);
+                drop(refused);
+                answer
+            }
+        }
     }
 }

@@ -11,24 +11,11 @@ mod cases;
 use crate::cases::Harness;
 use anyhow::Result;
 use bowtie_protocol::answer_lines;
-use jsonschema::{MetaDocuments, StandardMeta};
+use jsonschema::MetaSchemas;
 use schema_engine::Draft;
 
-/// Compiles the meta-schemas, and answers the lines.
-fn serve(rt: &HostRuntime, documents: &MetaDocuments) -> Result<()> {
-    let metas = StandardMeta::new(rt.alloc(), documents)?;
-    let harness = Harness {
-        documents,
-        metas: &metas,
-    };
-    let ended = answer_lines(rt, &harness, Draft::Draft202012);
-    drop(metas);
-    ended
-}
-
 fn main(rt: HostRuntime) -> Result<()> {
-    let documents = MetaDocuments::new(rt.alloc())?;
-    let ended = serve(&rt, &documents);
-    drop(documents);
-    ended
+    let mut metas = MetaSchemas::new();
+    metas.compile_each(rt.alloc())?;
+    answer_lines(&rt, &Harness { metas: &metas }, Draft::Draft202012)
 }

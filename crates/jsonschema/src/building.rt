@@ -1,22 +1,33 @@
-//! Building a validator from sources.
-ghost use Rattle.std.specs.Prelude.{◌≡◌, ◌⊎◌, [], IfErr, IfOk};
+//! Building a validator from sources, and from options.
+ghost use Rattle.std.specs.Prelude.{◌≡◌, ◌⊎◌, [], IfErr, IfOk, OnOk, is_ok, option_map, true};
 ghost use Rattle.serde_json.specs.View.{view};
 ghost use Rattle.standard_subschemas.specs.declared.rules.Rule.TheVariants.{Standard};
 ghost use Rattle.schema_keys.specs.declared.error.BuildError.TheVariants.{OutOfMemory};
 ghost use Rattle.schema_traits.specs.Showing.{Yields};
+ghost use Rattle.schema_drafts.specs.KeywordViews.{draft_of};
+ghost use Rattle.meta_checker.specs.DraftChecks.{checked_by};
+ghost use Rattle.standard_meta.specs.DraftMeanings.{regexes};
 ghost use Rattle.jsonschema.specs.Built.{IsBuilt, IsBuiltOf, IsRefused, IsRefusedOf, matcher_of};
+ghost use Rattle.jsonschema.specs.Built.{AreStandard, EachMeans, IsBuiltFrom, IsBuiltWith, IsNoValidatorOf, IsValidatorOf, RefusesFrom};
+ghost use Rattle.jsonschema.specs.BuildOptions.{HasNeeded, if_known, needed_draft, root_draft_of, sources_of};
+ghost use Rattle.jsonschema.specs.Refusing.{IsUnrefused, TellsOf};
 ghost use Rattle.jsonschema.specs.Sources.{default_draft_of, options_by, uri_of};
 ghost use Rattle.standard_resolver.specs.ResolverHolds.{Customs, Defaults, Drafts, GoesBy, Holds, IsUnder, Others};
 
+use crate::build_options::BuildOptions;
+use crate::error::{BuildError, error_of, unrefused};
+use crate::mentions::mentions_standard;
 use crate::sources::Sources;
 use pattern_matcher::PatternMatcher;
 use schema_engine::{
-    BuildError, Draft, KeywordTable, MetaValidators, OutOfMemory, Resolver, Validate,
-    ValidationOptions, Validator, VocabularySet,
+    BuildError as EngineError, Draft, KeywordTable, MetaValidators, OutOfMemory, Resolver,
+    Validate, ValidationOptions, Validator, VocabularySet,
 };
 use serde_json::Value;
 use standard_keywords::{StandardKeyword, StandardTable};
+use standard_meta::{MetaDocuments, MetaError, MetaSchemas};
 use standard_resolver::{Document, DocumentResolver, Rule};
+use standard_subschemas::{detected, names_draft_inside};
 use std::alloc::Global;
 
 /// A validator with the standard's keywords and regular expressions.
@@ -92,7 +103,7 @@ fn build_by<'p, V: MetaValidators>(
     matcher: &PatternMatcher,
     metas: &V,
     options: &ValidationOptions,
-) -> Result<StandardValidator, BuildError>
+) -> Result<StandardValidator, EngineError>
     ensures built { IfOk result (IsBuilt ⟦<DocumentResolver<'p> as Resolver>⟧ ⟦<StandardTable as KeywordTable<StandardKeyword>>⟧
         ⟦<StandardKeyword as Validate>⟧ resolver.now matcher.now (V.checked metas.now) options.now (view schema.now)) }
     ensures refused { IfErr result (λ e. (e ≡ OutOfMemory) ⊎ IsRefused ⟦<DocumentResolver<'p> as Resolver>⟧
@@ -107,17 +118,12 @@ fn build_by<'p, V: MetaValidators>(
 ///
 /// Each pattern of the sources is read once. The meta validators check the schema first, unless the
 /// options turn that off.
-///
-/// # Errors
-///
-/// The schema, or one that it reaches, is refused; the meta validators refuse it; more keys are
-/// reached than the limit allows; or out of memory.
-pub fn build<'p, V: MetaValidators>(
+fn build_of<'p, V: MetaValidators>(
     alloc: Global,
     sources: Sources<'p>,
     metas: &V,
     options: ValidationOptions,
-) -> Result<StandardValidator, BuildError>
+) -> Result<StandardValidator, EngineError>
     ensures built { IfOk result (IsBuiltOf ⟦<DocumentResolver<'p> as Resolver>⟧ ⟦<StandardTable as KeywordTable<StandardKeyword>>⟧
         ⟦<StandardKeyword as Validate>⟧ (V.checked metas.now) options sources.entry) }
     ensures refused { IfErr result (λ e. (e ≡ OutOfMemory) ⊎ IsRefusedOf ⟦<DocumentResolver<'p> as Resolver>⟧
@@ -129,4 +135,258 @@ pub fn build<'p, V: MetaValidators>(
     let options = options_for(alloc, options, &sources)?;
     let resolver = resolver_of(alloc, sources)?;
     build_by(alloc, schema, &resolver, &matcher, metas, &options)
+}
+
+/// Returns the sources that options and a schema make.
+fn sources_of<'a>(options: BuildOptions<'a>, schema: &'a Value) -> (Sources<'a>, ValidationOptions)
+    ensures sources { result.0 ≡ sources_of options.entry schema.now }
+    ensures engine { result.1 ≡ options.entry.engine }
+{
+    let sources = Sources {
+        schema,
+        uri: options.uri,
+        draft: options.default_draft,
+        documents: options.documents,
+    };
+    (sources, options.engine)
+}
+
+/// Returns the engine's refusal as an error of this library.
+fn told(built: Result<StandardValidator, EngineError>) -> Result<StandardValidator, BuildError>
+    ensures same { IfOk result (λ v. built ≡ Ok v) }
+    ensures told { IfErr result (TellsOf built) }
+{
+    match built {
+        Ok(validator) => Ok(validator),
+        Err(refused) => Err(error_of(refused)),
+    }
+}
+
+/// Returns the fault of the meta-schemas as an error of this library.
+fn told_of_metas(compiled: Result<(), MetaError>) -> Result<(), BuildError>
+    ensures same { OnOk result (is_ok compiled ≡ true) }
+    ensures unrefused { IfErr result IsUnrefused }
+{
+    match compiled {
+        Ok(()) => Ok(()),
+        Err(fault) => Err(unrefused(fault)),
+    }
+}
+
+/// Returns the draft, if it is known.
+fn if_known(draft: Draft) -> Option<Draft>
+    ensures known { option_map draft_of result ≡ if_known (draft_of draft) }
+{
+    match draft {
+        Draft::Draft4 => Some(draft),
+        Draft::Draft6 => Some(draft),
+        Draft::Draft7 => Some(draft),
+        Draft::Draft201909 => Some(draft),
+        Draft::Draft202012 => Some(draft),
+        Draft::Unknown => None,
+    }
+}
+
+/// Compiles the meta-schema of a draft, or those of all drafts.
+fn compile_needed(
+    alloc: Global,
+    metas: &mut MetaSchemas,
+    needed: Option<Draft>,
+) -> Result<(), BuildError>
+    ensures needed { OnOk result (HasNeeded (option_map draft_of needed) metas.new.checkers) }
+    ensures unrefused { IfErr result IsUnrefused }
+    ensures each { EachMeans ⟦<DocumentResolver<'static> as Resolver>⟧ ⟦<StandardTable as KeywordTable<StandardKeyword>>⟧
+        ⟦<StandardKeyword as Validate>⟧ metas.old.checkers
+        → EachMeans ⟦<DocumentResolver<'static> as Resolver>⟧ ⟦<StandardTable as KeywordTable<StandardKeyword>>⟧
+        ⟦<StandardKeyword as Validate>⟧ metas.new.checkers }
+{
+    match needed {
+        Some(draft) => told_of_metas(metas.compile(alloc, draft)),
+        None => told_of_metas(metas.compile_each(alloc)),
+    }
+}
+
+impl<'a> BuildOptions<'a> {
+    /// Returns the draft of the root of a schema.
+    fn root_draft(&self, schema: &Value) -> Draft
+        ensures root { draft_of result ≡ root_draft_of self.now (view schema.now) }
+    {
+        match self.draft {
+            Some(draft) => draft,
+            None => detected(self.default_draft.unwrap_or(Draft::Draft202012), schema),
+        }
+    }
+
+    /// Returns the draft whose meta-schema the check of a schema needs.
+    ///
+    /// Returns `None` if it may need those of all drafts.
+    fn needed_draft(&self, schema: &Value) -> Option<Draft>
+        ensures needed { option_map draft_of result ≡ needed_draft self.now (view schema.now) }
+    {
+        if names_draft_inside(schema) {
+            return None;
+        }
+        if_known(self.root_draft(schema))
+    }
+
+    /// Compiles the meta-schemas that the check of a schema may need, if it is checked.
+    fn prepare(&self, metas: &mut MetaSchemas, schema: &Value) -> Result<(), BuildError>
+        ensures needed { OnOk result (self.now.engine.checks ≡ true
+            → HasNeeded (needed_draft self.now (view schema.now)) metas.new.checkers) }
+        ensures unrefused { IfErr result IsUnrefused }
+        ensures each { EachMeans ⟦<DocumentResolver<'static> as Resolver>⟧ ⟦<StandardTable as KeywordTable<StandardKeyword>>⟧
+            ⟦<StandardKeyword as Validate>⟧ metas.old.checkers
+            → EachMeans ⟦<DocumentResolver<'static> as Resolver>⟧ ⟦<StandardTable as KeywordTable<StandardKeyword>>⟧
+            ⟦<StandardKeyword as Validate>⟧ metas.new.checkers }
+    {
+        if !self.checks {
+            return Ok(());
+        }
+        compile_needed(self.alloc, metas, self.needed_draft(schema))
+    }
+
+    /// Returns whether the schema or a document may refer to the standard's meta-schemas.
+    fn mentions_standard(&self, schema: &Value) -> bool {
+        if mentions_standard(schema) {
+            return true;
+        }
+        for document in &self.documents {
+            if mentions_standard(document.value) {
+                return true;
+            }
+        }
+        false
+    }
+
+    /// Builds from the schema and the documents of these options alone.
+    fn build_alone<V: MetaValidators>(
+        self,
+        metas: &V,
+        schema: &'a Value,
+    ) -> Result<StandardValidator, BuildError>
+        ensures built { IfOk result (IsBuiltFrom ⟦<DocumentResolver<'a> as Resolver>⟧ ⟦<StandardTable as KeywordTable<StandardKeyword>>⟧
+            ⟦<StandardKeyword as Validate>⟧ (V.checked metas.now) self.entry schema.now) }
+        ensures refused { IfErr result (RefusesFrom ⟦<DocumentResolver<'a> as Resolver>⟧ ⟦<StandardTable as KeywordTable<StandardKeyword>>⟧
+            ⟦<StandardKeyword as Validate>⟧ (V.checked metas.now) self.entry schema.now) }
+    {
+        let alloc = self.alloc;
+        let (sources, engine) = sources_of(self, schema);
+        told(build_of(alloc, sources, metas, engine))
+    }
+
+    /// Builds from the schema, the documents of these options, and the standard's meta-schemas.
+    fn build_among<V: MetaValidators>(
+        self,
+        metas: &V,
+        schema: &'a Value,
+        documents: &'a MetaDocuments,
+    ) -> Result<StandardValidator, BuildError>
+        ensures built { IfOk result (λ p. AreStandard documents.now → IsBuiltFrom ⟦<DocumentResolver<'a> as Resolver>⟧ ⟦<StandardTable as KeywordTable<StandardKeyword>>⟧
+            ⟦<StandardKeyword as Validate>⟧ (V.checked metas.now) self.entry schema.now p) }
+        ensures refused { IfErr result (λ e. AreStandard documents.now → RefusesFrom ⟦<DocumentResolver<'a> as Resolver>⟧ ⟦<StandardTable as KeywordTable<StandardKeyword>>⟧
+            ⟦<StandardKeyword as Validate>⟧ (V.checked metas.now) self.entry schema.now e) }
+    {
+        let alloc = self.alloc;
+        let (sources, engine) = sources_of(self, schema);
+        match sources.with_meta_schemas(alloc, documents) {
+            Ok(sources) => told(build_of(alloc, sources, metas, engine)),
+            Err(_refused) => Err(BuildError::OutOfMemory),
+        }
+    }
+
+    /// Reads the standard's meta-schemas, and builds among them.
+    fn build_beside<V: MetaValidators>(
+        self,
+        metas: &V,
+        schema: &'a Value,
+    ) -> Result<StandardValidator, BuildError>
+        ensures built { IfOk result (IsBuiltFrom ⟦<DocumentResolver<'a> as Resolver>⟧ ⟦<StandardTable as KeywordTable<StandardKeyword>>⟧
+            ⟦<StandardKeyword as Validate>⟧ (V.checked metas.now) self.entry schema.now) }
+        ensures refused { IfErr result (RefusesFrom ⟦<DocumentResolver<'a> as Resolver>⟧ ⟦<StandardTable as KeywordTable<StandardKeyword>>⟧
+            ⟦<StandardKeyword as Validate>⟧ (V.checked metas.now) self.entry schema.now) }
+    {
+        match MetaDocuments::new(self.alloc) {
+            Ok(documents) => {
+                let built = self.build_among(metas, schema, &documents);
+                drop(documents);
+                built
+            }
+            Err(fault) => Err(unrefused(fault)),
+        }
+    }
+
+    /// Builds a validator of a schema, which these meta validators check.
+    ///
+    /// Each pattern of the schema and the documents is read once. The standard's meta-schemas are
+    /// among the documents that references may lead to, behind those of the options.
+    ///
+    /// # Errors
+    ///
+    /// The schema, or one that it reaches, is refused; the meta validators refuse it; more keys are
+    /// reached than the limit allows; or out of memory.
+    pub fn build_by<V: MetaValidators>(
+        self,
+        metas: &V,
+        schema: &'a Value,
+    ) -> Result<StandardValidator, BuildError>
+        ensures built { IfOk result (IsBuiltFrom ⟦<DocumentResolver<'a> as Resolver>⟧ ⟦<StandardTable as KeywordTable<StandardKeyword>>⟧
+            ⟦<StandardKeyword as Validate>⟧ (V.checked metas.now) self.entry schema.now) }
+        ensures refused { IfErr result (RefusesFrom ⟦<DocumentResolver<'a> as Resolver>⟧ ⟦<StandardTable as KeywordTable<StandardKeyword>>⟧
+            ⟦<StandardKeyword as Validate>⟧ (V.checked metas.now) self.entry schema.now) }
+    {
+        if self.mentions_standard(schema) {
+            self.build_beside(metas, schema)
+        } else {
+            self.build_alone(metas, schema)
+        }
+    }
+
+    /// Builds a validator of a schema, which the standard's meta-schemas check.
+    ///
+    /// A meta-schema that is not compiled yet is compiled if the schema needs it, and is kept for
+    /// further builds. It is needed if the schema is of its draft. If a `$schema` stands inside the
+    /// schema, or its own is none of the standard's, then those of all drafts are needed.
+    ///
+    /// # Errors
+    ///
+    /// As for `build`.
+    pub fn build_with(
+        self,
+        metas: &mut MetaSchemas,
+        schema: &'a Value,
+    ) -> Result<StandardValidator, BuildError>
+        ensures built { IfOk result (IsBuiltWith ⟦<DocumentResolver<'a> as Resolver>⟧ ⟦<StandardTable as KeywordTable<StandardKeyword>>⟧
+            ⟦<StandardKeyword as Validate>⟧ self.entry schema.now metas.new.checkers) }
+        ensures refused { IfErr result (RefusesFrom ⟦<DocumentResolver<'a> as Resolver>⟧ ⟦<StandardTable as KeywordTable<StandardKeyword>>⟧
+            ⟦<StandardKeyword as Validate>⟧ (checked_by ⟦<StandardKeyword as Validate>⟧ regexes metas.new.checkers) self.entry schema.now) }
+        ensures each { EachMeans ⟦<DocumentResolver<'static> as Resolver>⟧ ⟦<StandardTable as KeywordTable<StandardKeyword>>⟧
+            ⟦<StandardKeyword as Validate>⟧ metas.old.checkers
+            → EachMeans ⟦<DocumentResolver<'static> as Resolver>⟧ ⟦<StandardTable as KeywordTable<StandardKeyword>>⟧
+            ⟦<StandardKeyword as Validate>⟧ metas.new.checkers }
+    {
+        match self.prepare(metas, schema) {
+            Ok(()) => self.build_by(&*metas, schema),
+            Err(fault) => Err(fault),
+        }
+    }
+
+    /// Builds a validator of a schema. The validator borrows nothing.
+    ///
+    /// The meta-schema of its draft checks the schema first, unless the options turn that off.
+    ///
+    /// # Errors
+    ///
+    /// The schema, or one that it reaches, is refused; its meta-schema refuses it; more distinct
+    /// schemas are reached than the limit allows; or out of memory.
+    pub fn build(self, schema: &'a Value) -> Result<StandardValidator, BuildError>
+        ensures built { IfOk result (IsValidatorOf ⟦<DocumentResolver<'a> as Resolver>⟧ ⟦<StandardTable as KeywordTable<StandardKeyword>>⟧
+            ⟦<StandardKeyword as Validate>⟧ self.entry schema.now) }
+        ensures refused { IfErr result (IsNoValidatorOf ⟦<DocumentResolver<'a> as Resolver>⟧ ⟦<StandardTable as KeywordTable<StandardKeyword>>⟧
+            ⟦<StandardKeyword as Validate>⟧ self.entry schema.now) }
+    {
+        let mut metas = MetaSchemas::new();
+        let built = self.build_with(&mut metas, schema);
+        drop(metas);
+        built
+    }
 }

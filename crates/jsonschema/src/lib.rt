@@ -1,13 +1,21 @@
 //! JSON Schema validators for real-world schemas, built in one call.
 //!
-//! They have the standard's keywords and regular expressions. References lead to the documents that
-//! are supplied under their URIs, and schemas are checked against the meta-schemas.
+//! `validator_for` builds one by the default options, and `options` sets them first; `is_valid` and
+//! its like build and ask in one call. Validators have the standard's keywords and regular
+//! expressions. References lead to the documents that are supplied under their URIs, and schemas
+//! are checked against the meta-schemas.
 #![tactic(auto)]
 
+mod build_options;
 mod building;
+mod calls;
+mod error;
+mod mentions;
 mod sources;
 
-pub use building::{StandardValidator, build};
-pub use schema_engine::{BuildError, Draft, ValidationOptions};
-pub use sources::Sources;
-pub use standard_meta::{MetaDocuments, MetaError, StandardMeta};
+pub use build_options::{BuildOptions, options};
+pub use building::StandardValidator;
+pub use calls::{evaluate, is_valid, iter_errors, validate, validator_for};
+pub use error::BuildError;
+pub use schema_engine::{Draft, ErrorIterator, Evaluation, Location, OutOfMemory, ValidationError};
+pub use standard_meta::{MetaDocuments, MetaError, MetaSchemas};

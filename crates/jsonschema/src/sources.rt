@@ -1,6 +1,5 @@
 //! The schema and the documents that a validator is built from.
-ghost use Rattle.std.specs.Prelude.{◌≡◌, ◌++◌, ◌∷◌, [], IfOk, None, Some, map, OnOk};
-ghost use Rattle.schema_drafts.specs.KeywordViews.{draft_of};
+ghost use Rattle.std.specs.Prelude.{◌≡◌, ◌++◌, IfOk, map, OnOk};
 ghost use Rattle.standard_resolver.specs.DocumentViews.{given_of};
 ghost use Rattle.serde_json.specs.View.{view};
 ghost use Rattle.schema_traits.specs.Showing.{Yields};
@@ -17,7 +16,7 @@ use std::marker::Model;
 ///
 /// Each document has its URI.
 #[derive(Drop)]
-pub struct Sources<'a> {
+pub(crate) struct Sources<'a> {
     pub(crate) schema: &'a Value,
     pub(crate) uri: Option<String>,
     pub(crate) draft: Option<Draft>,
@@ -49,7 +48,7 @@ fn add_meta_schemas<'a>(
     metas: &'a MetaDocuments,
     documents: &mut Vec<Document<'a>>,
 ) -> Result<(), OutOfMemory>
-    ensures added { OnOk result (map given_of documents.new.items ≡ map given_of documents.old.items ++ metas.now.documents) }
+    ensures added { OnOk result (map given_of documents.new.items ≡ map given_of documents.old.items ++ metas.now) }
 {
     for meta in metas.documents() {
         documents.push(Document {
@@ -61,63 +60,6 @@ fn add_meta_schemas<'a>(
 }
 
 impl<'a> Sources<'a> {
-    /// Creates sources with only a schema. Does not allocate.
-    pub fn new(alloc: Global, schema: &'a Value) -> Sources<'a>
-        ensures alone { result ≡ record { schema = schema.now; uri = None; draft = None; documents = [] } }
-    {
-        Sources {
-            schema,
-            uri: None,
-            draft: None,
-            documents: Vec::new(alloc),
-        }
-    }
-
-    /// Puts the schema under this URI, whatever identifier it has.
-    ///
-    /// # Errors
-    ///
-    /// Out of memory.
-    pub fn with_uri(self, alloc: Global, uri: &str) -> Result<Sources<'a>, OutOfMemory>
-        ensures uri { Yields result (record self.entry { uri = Some uri.now }) }
-    {
-        let mut sources = self;
-        sources.uri = Some(String::from_str(alloc, uri)?);
-        Ok(sources)
-    }
-
-    /// Sets the draft of schemas that do not name theirs.
-    ///
-    /// If it is not set, they are read as 2020-12. Does not allocate.
-    pub fn with_default_draft(self, draft: Draft) -> Sources<'a>
-        ensures draft { result ≡ record self.entry { draft = Some (draft_of draft) } }
-    {
-        let mut sources = self;
-        sources.draft = Some(draft);
-        sources
-    }
-
-    /// Adds a document, which references find under this URI.
-    ///
-    /// # Errors
-    ///
-    /// Out of memory.
-    pub fn with_document(
-        self,
-        alloc: Global,
-        uri: &str,
-        document: &'a Value,
-    ) -> Result<Sources<'a>, OutOfMemory>
-        ensures document { Yields result (with_documents self.entry (record { uri = uri.now; value = document.now } ∷ [])) }
-    {
-        let mut sources = self;
-        sources.documents.push(Document {
-            uri: String::from_str(alloc, uri)?,
-            value: document,
-        })?;
-        Ok(sources)
-    }
-
     /// Adds the meta-schemas of the drafts and of the vocabularies.
     ///
     /// They come after the documents added so far. References find them under the URIs of the
@@ -126,12 +68,12 @@ impl<'a> Sources<'a> {
     /// # Errors
     ///
     /// Out of memory.
-    pub fn with_meta_schemas(
+    pub(crate) fn with_meta_schemas(
         self,
         alloc: Global,
         metas: &'a MetaDocuments,
     ) -> Result<Sources<'a>, OutOfMemory>
-        ensures documents { Yields result (with_documents self.entry metas.now.documents) }
+        ensures documents { Yields result (with_documents self.entry metas.now) }
     {
         let mut sources = self;
         add_meta_schemas(alloc, metas, &mut sources.documents)?;

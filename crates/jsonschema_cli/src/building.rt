@@ -2,122 +2,103 @@
 
 use crate::validating::Validating;
 use command_line::{Desk, Document, Engine, Options, Outcome, Stop, answer_by, tell};
-use jsonschema::{
-    BuildError, MetaDocuments, MetaError, Sources, StandardMeta, ValidationOptions, build,
-};
-use schema_engine::{Draft, OutOfMemory};
+use jsonschema::{BuildError, BuildOptions, MetaError, options as build_options};
+use schema_engine::{BuildError as EngineError, OutOfMemory};
 use serde_json::Value;
 use std::alloc::Global;
 
 /// Sets the limit on runs, if one is given that is at least 1.
-fn with_runs(options: ValidationOptions, limit: Option<u32>) -> ValidationOptions {
+fn with_runs<'a>(chosen: BuildOptions<'a>, limit: Option<u32>) -> BuildOptions<'a> {
     match limit {
-        Some(limit) if limit >= 1 => options.with_run_limit(limit),
-        _ => options,
+        Some(limit) if limit >= 1 => chosen.with_run_limit(limit),
+        _ => chosen,
     }
 }
 
-fn with_work(options: ValidationOptions, limit: Option<u64>) -> ValidationOptions {
-    match limit {
-        Some(limit) => options.with_work_limit(limit),
-        None => options,
+fn with_limits<'a>(chosen: BuildOptions<'a>, options: &Options<'_>) -> BuildOptions<'a> {
+    let mut chosen = with_runs(chosen, options.run_limit);
+    if let Some(limit) = options.work_limit {
+        chosen = chosen.with_work_limit(limit);
     }
-}
-
-fn with_nested(options: ValidationOptions, limit: Option<usize>) -> ValidationOptions {
-    match limit {
-        Some(limit) => options.with_nested_limit(limit),
-        None => options,
+    if let Some(limit) = options.nested_limit {
+        chosen = chosen.with_nested_limit(limit);
     }
-}
-
-fn engine_options(alloc: Global, options: &Options<'_>) -> ValidationOptions {
-    let chosen = ValidationOptions::new(alloc).should_validate_schema(options.checked);
-    let chosen = with_runs(chosen, options.run_limit);
-    let chosen = with_work(chosen, options.work_limit);
-    with_nested(chosen, options.nested_limit)
+    chosen
 }
 
 fn with_documents<'a>(
-    alloc: Global,
-    sources: Sources<'a>,
+    chosen: BuildOptions<'a>,
     documents: &'a [Document<'_>],
-) -> Result<Sources<'a>, OutOfMemory> {
-    let mut sources = sources;
+) -> Result<BuildOptions<'a>, OutOfMemory> {
+    let mut chosen = chosen;
     for document in documents {
-        sources = sources.with_document(alloc, document.uri, &document.value)?;
+        chosen = chosen.with_document(document.uri, &document.value)?;
     }
-    Ok(sources)
+    Ok(chosen)
 }
 
-fn with_draft<'a>(sources: Sources<'a>, draft: Option<Draft>) -> Sources<'a> {
-    match draft {
-        Some(draft) => sources.with_default_draft(draft),
-        None => sources,
-    }
-}
-
-fn sources_of<'a>(
+/// Returns the options of the build that the command's words ask for.
+fn chosen_by<'a>(
     alloc: Global,
     options: &Options<'_>,
-    schema: &'a Value,
     documents: &'a [Document<'_>],
-    metas: &'a MetaDocuments,
-) -> Result<Sources<'a>, OutOfMemory> {
-    let sources = with_draft(Sources::new(alloc, schema), options.draft);
-    with_documents(alloc, sources, documents)?.with_meta_schemas(alloc, metas)
+) -> Result<BuildOptions<'a>, OutOfMemory> {
+    let mut chosen = build_options(alloc).should_validate_schema(options.checked);
+    if let Some(draft) = options.draft {
+        chosen = chosen.with_default_draft(draft);
+    }
+    with_documents(with_limits(chosen, options), documents)
 }
 
 /// Returns advice to the user about a refusal of the schema.
-fn hint_of(refused: &BuildError) -> &'static str {
+fn hint_of(refused: &EngineError) -> &'static str {
     match refused {
-        BuildError::NotASchema(_) => "a schema is an object, true or false",
-        BuildError::ReferenceNotText(_) => "write the reference as a string",
-        BuildError::Lookup(_) | BuildError::MissingRoot(_) => {
+        EngineError::NotASchema(_) => "a schema is an object, true or false",
+        EngineError::ReferenceNotText(_) => "write the reference as a string",
+        EngineError::Lookup(_) | EngineError::MissingRoot(_) => {
             "mend the reference; a document that it leads to is handed over by --resource URI=FILE"
         }
-        BuildError::KeywordRefused(_) => "write this keyword otherwise, or leave it out",
-        BuildError::UnsupportedVocabulary(_) => {
+        EngineError::KeywordRefused(_) => "write this keyword otherwise, or leave it out",
+        EngineError::UnsupportedVocabulary(_) => {
             "have the meta-schema require the standard's vocabularies alone"
         }
-        BuildError::MetaSchema(_) =>
+        EngineError::MetaSchema(_) =>
             "mend the keyword there; --no-check builds the schema unchecked",
-        BuildError::NodeLimit(_) => "split the schema, or leave out what no reference needs",
-        BuildError::OutOfMemory => "give the process more memory",
-    }
-}
-
-/// Reports why the schema is refused.
-fn refuse(rt: &HostRuntime, options: &Options<'_>, refused: &BuildError) -> Stop {
-    match refused {
-        BuildError::OutOfMemory => Stop::OutOfMemory,
-        _ => tell(rt, options.schema, "is refused", refused, hint_of(refused)),
+        EngineError::NodeLimit(_) => "split the schema, or leave out what no reference needs",
+        EngineError::OutOfMemory => "give the process more memory",
     }
 }
 
 /// Reports why the meta-schemas are not available.
 fn refuse_metas(rt: &HostRuntime, fault: &MetaError) -> Stop {
-    match fault {
-        MetaError::OutOfMemory => Stop::OutOfMemory,
-        _ => tell(
-            rt,
-            "jsonschema",
-            "cannot check schemas",
-            fault,
-            "this is a fault of the command; tell those who maintain it",
-        ),
+    tell(
+        rt,
+        "jsonschema",
+        "cannot check schemas",
+        fault,
+        "this is a fault of the command; tell those who maintain it",
+    )
+}
+
+/// Reports why there is no validator.
+fn refuse(rt: &HostRuntime, options: &Options<'_>, refused: &BuildError) -> Stop {
+    match refused {
+        BuildError::Refused(refused) => {
+            tell(rt, options.schema, "is refused", refused, hint_of(refused))
+        }
+        BuildError::MetaSchemas(fault) => refuse_metas(rt, fault),
+        BuildError::OutOfMemory => Stop::OutOfMemory,
     }
 }
 
-fn answer_by_sources(
+fn answer_chosen(
     rt: &HostRuntime,
     desk: &mut Desk,
     options: &Options<'_>,
-    sources: Sources<'_>,
-    metas: &StandardMeta,
+    chosen: BuildOptions<'_>,
+    schema: &Value,
 ) -> Result<Outcome, Stop> {
-    let chosen = engine_options(rt.alloc(), options);
-    match build(rt.alloc(), sources, metas, chosen) {
+    match chosen.build(schema) {
         Ok(validator) => {
             let asked = Validating {
                 validator: &validator,
@@ -126,28 +107,11 @@ fn answer_by_sources(
             drop(validator);
             answered
         }
-        Err(refused) => Err(refuse(rt, options, &refused)),
-    }
-}
-
-fn answer_by_metas(
-    rt: &HostRuntime,
-    desk: &mut Desk,
-    options: &Options<'_>,
-    schema: &Value,
-    documents: &[Document<'_>],
-    metas: &MetaDocuments,
-) -> Result<Outcome, Stop> {
-    match StandardMeta::new(rt.alloc(), metas) {
-        Ok(checks) => {
-            let answered = match sources_of(rt.alloc(), options, schema, documents, metas) {
-                Ok(sources) => answer_by_sources(rt, desk, options, sources, &checks),
-                Err(_refused) => Err(Stop::OutOfMemory),
-            };
-            drop(checks);
-            answered
+        Err(refused) => {
+            let stop = refuse(rt, options, &refused);
+            drop(refused);
+            Err(stop)
         }
-        Err(fault) => Err(refuse_metas(rt, &fault)),
     }
 }
 
@@ -163,13 +127,9 @@ impl Engine for Standard {
         schema: &Value,
         documents: &[Document<'_>],
     ) -> Result<Outcome, Stop> {
-        match MetaDocuments::new(rt.alloc()) {
-            Ok(metas) => {
-                let answered = answer_by_metas(rt, desk, options, schema, documents, &metas);
-                drop(metas);
-                answered
-            }
-            Err(fault) => Err(refuse_metas(rt, &fault)),
+        match chosen_by(rt.alloc(), options, documents) {
+            Ok(chosen) => answer_chosen(rt, desk, options, chosen, schema),
+            Err(_refused) => Err(Stop::OutOfMemory),
         }
     }
 }

@@ -1,3 +1,4 @@
 pub mod FirstChecked
+pub mod Programs
 pub mod Told
 mod Tables

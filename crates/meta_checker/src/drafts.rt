@@ -1,43 +1,29 @@
-//! Meta validators with a checker for each draft.
-ghost use Rattle.std.specs.Prelude.{◌≡◌, IfOk};
-ghost use Rattle.theory_definitions.specs.Drafts as drafts;
+//! Meta validators with a checker for each draft that has one.
+ghost use Rattle.std.specs.Prelude.{◌≡◌, Bool, IfOk, IfSome, is_some, option_copied, option_map, true, false};
+ghost use Rattle.serde_json.specs.Written.{has_float};
+ghost use Rattle.serde_json.specs.View.{view};
 ghost use Rattle.schema_drafts.specs.KeywordViews.{draft_of};
-ghost use Rattle.schema_compiled.specs.Program.{Program};
-ghost use Rattle.meta_checker.specs.DraftChecks.{EachChecks, program_of};
+ghost use Rattle.schema_reports.specs.ReportViews.{BorrowsItsPlace, error_of};
+ghost use Rattle.meta_checker.specs.DraftChecks.{first_of, no_programs, program_of, unchecked_error, with_program};
 
 use crate::checker::Checker;
 use schema_drafts::Draft;
-use schema_reports::{OutOfMemory, ValidationError};
+use schema_reports::{Instance, Location, OutOfMemory, Place, ValidationError};
 use schema_traits::{Matcher, MetaValidators, Validate};
 use serde_json::Value;
 use std::alloc::Global;
 use std::marker::Model;
 
-/// Makes the checkers of the drafts.
-pub trait CheckerMaker<K: Validate, M: Matcher> {
-    /// The reason why no checker is made.
-    type Error: Drop;
-
-    /// Holds if the program checks the draft as the maker specifies.
-    ghost checks: { Self → drafts.Draft → Program K M → Type 0 };
-
-    /// Returns the checker of a draft.
-    ///
-    /// # Errors
-    ///
-    /// The maker's reason why it makes no checker.
-    fn checker(&self, alloc: Global, draft: Draft) -> Result<Checker<K, M>, Self::Error>
-        ensures checks { IfOk result (λ c. checks self.now (draft_of draft) c) };
-}
-
-/// A checker for each draft. An unknown draft has the checker of 2020-12.
+/// A checker for each draft that has one. An unknown draft has the checker of 2020-12.
+///
+/// A draft without a checker accepts no schema but those that need no check.
 #[derive(Drop)]
 pub struct DraftCheckers<K: Validate, M: Matcher> {
-    draft4: Checker<K, M>,
-    draft6: Checker<K, M>,
-    draft7: Checker<K, M>,
-    draft2019_09: Checker<K, M>,
-    draft2020_12: Checker<K, M>,
+    draft4: Option<Checker<K, M>>,
+    draft6: Option<Checker<K, M>>,
+    draft7: Option<Checker<K, M>>,
+    draft2019_09: Option<Checker<K, M>>,
+    draft2020_12: Option<Checker<K, M>>,
 }
 
 impl<K: Validate, M: Matcher> Model for DraftCheckers<K, M> {
@@ -58,38 +44,81 @@ impl<K: Validate, M: Matcher> Model for DraftCheckers<K, M> {
     } };
 }
 
+/// Returns the error of the schema `false` about this schema.
+fn refuse<'v>(alloc: Global, schema: &'v Value) -> Result<ValidationError<'v>, OutOfMemory>
+    ensures error { IfOk result (λ e. (texts : Bool) → (texts ≡ true → has_float (view schema.now) ≡ false)
+        → error_of texts e ≡ unchecked_error texts (view schema.now)) }
+    ensures borrows { IfOk result (BorrowsItsPlace (view schema.now)) }
+{
+    let place = Place::root(alloc);
+    let schema_path = Location::new(alloc);
+    let path = Location::new(alloc);
+    let instance = Instance::Value(schema);
+    ValidationError::false_schema(alloc, instance, place, schema_path, path, None)
+}
+
+/// Returns the first error of a schema by a checker; without one there is an error.
+fn check_by<'v, K: Validate, M: Matcher>(
+    alloc: Global,
+    checker: Option<&Checker<K, M>>,
+    schema: &'v Value,
+) -> Result<Option<ValidationError<'v>>, OutOfMemory>
+    ensures checked { IfOk result (λ o. (texts : Bool) → (texts ≡ true → has_float (view schema.now) ≡ false)
+        → option_map (error_of texts) o ≡ first_of K.Validate M.Matcher.own (option_copied checker.entry) texts (view schema.now)) }
+    ensures borrows { IfOk result (λ o. IfSome o (BorrowsItsPlace (view schema.now))) }
+{
+    match checker {
+        Some(checker) => checker.check(alloc, schema),
+        None => Ok(Some(refuse(alloc, schema)?)),
+    }
+}
+
 impl<K: Validate, M: Matcher> DraftCheckers<K, M> {
-    /// Makes a checker for each draft by a maker, the oldest draft's first.
-    ///
-    /// Does not allocate by itself.
-    ///
-    /// # Errors
-    ///
-    /// The maker's error for the first draft that it makes no checker for.
-    pub fn by<C: CheckerMaker<K, M>>(
-        alloc: Global,
-        maker: &C,
-    ) -> Result<DraftCheckers<K, M>, C::Error>
-        ensures each { IfOk result (EachChecks (C.checks maker.now)) }
+    /// Creates a value in which no draft has a checker. Does not allocate.
+    pub fn new() -> DraftCheckers<K, M>
+        ensures none { result ≡ no_programs }
     {
-        Ok(DraftCheckers {
-            draft4: maker.checker(alloc, Draft::Draft4)?,
-            draft6: maker.checker(alloc, Draft::Draft6)?,
-            draft7: maker.checker(alloc, Draft::Draft7)?,
-            draft2019_09: maker.checker(alloc, Draft::Draft201909)?,
-            draft2020_12: maker.checker(alloc, Draft::Draft202012)?,
-        })
+        DraftCheckers {
+            draft4: None,
+            draft6: None,
+            draft7: None,
+            draft2019_09: None,
+            draft2020_12: None,
+        }
     }
 
-    fn of_draft(&self, draft: Draft) -> &Checker<K, M>
-        ensures program { result.now ≡ program_of self.now (draft_of draft) }
+    /// Sets the checker of a draft.
+    pub fn set(&mut self, draft: Draft, checker: Checker<K, M>)
+        ensures set { self.new ≡ with_program self.old (draft_of draft) checker }
     {
         match draft {
-            Draft::Draft4 => &self.draft4,
-            Draft::Draft6 => &self.draft6,
-            Draft::Draft7 => &self.draft7,
-            Draft::Draft201909 => &self.draft2019_09,
-            Draft::Draft202012 | Draft::Unknown => &self.draft2020_12,
+            Draft::Draft4 => self.draft4 = Some(checker),
+            Draft::Draft6 => self.draft6 = Some(checker),
+            Draft::Draft7 => self.draft7 = Some(checker),
+            Draft::Draft201909 => self.draft2019_09 = Some(checker),
+            Draft::Draft202012 | Draft::Unknown => self.draft2020_12 = Some(checker),
+        }
+    }
+
+    /// Returns whether a draft has a checker.
+    pub fn has(&self, draft: Draft) -> bool
+        ensures has { result ≡ is_some (program_of self.now (draft_of draft)) }
+    {
+        match self.of_draft(draft) {
+            Some(_) => true,
+            None => false,
+        }
+    }
+
+    fn of_draft(&self, draft: Draft) -> Option<&Checker<K, M>>
+        ensures program { option_copied result ≡ program_of self.now (draft_of draft) }
+    {
+        match draft {
+            Draft::Draft4 => self.draft4.as_ref(),
+            Draft::Draft6 => self.draft6.as_ref(),
+            Draft::Draft7 => self.draft7.as_ref(),
+            Draft::Draft201909 => self.draft2019_09.as_ref(),
+            Draft::Draft202012 | Draft::Unknown => self.draft2020_12.as_ref(),
         }
     }
 }
@@ -105,6 +134,6 @@ impl<K: Validate, M: Matcher> MetaValidators for DraftCheckers<K, M> {
         draft: Draft,
         schema: &'v Value,
     ) -> Result<Option<ValidationError<'v>>, OutOfMemory> {
-        self.of_draft(draft).check(alloc, schema)
+        check_by(alloc, self.of_draft(draft), schema)
     }
 }

@@ -10,7 +10,7 @@ mod nodes;
 mod values;
 
 pub use checker::Checker;
-pub use drafts::{CheckerMaker, DraftCheckers};
+pub use drafts::DraftCheckers;
 pub use laws::first_errors_are_told;
 pub use nodes::{TellsFractions, show_no_fraction};
 pub use values::has_fraction;

@@ -1,1 +1,2 @@
+pub mod MetaTexts
 pub mod MetaUris

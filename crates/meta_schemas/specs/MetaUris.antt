@@ -1,6 +1,6 @@
--- The URIs of the meta-schemas, without fragments. (Core 2020-12, 8.1.1 and 8.1.2; Core 2019-09,
--- 8.1; drafts 4, 6 and 7, `$schema`)
-use Rattle.std.specs.Prelude.{List, [], codes, ◌∷◌}
+-- The URIs of the meta-schemas of the drafts, without fragments. (Core 2020-12, 8.1.1; Core 2019-09,
+-- 8.1.1; drafts 4, 6 and 7, `$schema`)
+use Rattle.std.specs.Prelude.{codes}
 use Rattle.theory_definitions.specs.Drafts.{Draft, draft_2019_09, draft_2020_12, draft_4, draft_6, draft_7, draft_unknown}
 use Rattle.theory_definitions.specs.Instance.{Text}
 
@@ -12,22 +12,3 @@ uri_of draft_7 = codes "http://json-schema.org/draft-07/schema"
 uri_of draft_2019_09 = codes "https://json-schema.org/draft/2019-09/schema"
 uri_of draft_2020_12 = codes "https://json-schema.org/draft/2020-12/schema"
 uri_of draft_unknown = codes "https://json-schema.org/draft/2020-12/schema"
-
--- the URIs of the meta-schemas of the vocabularies of 2019-09, then of 2020-12
-abbrev pub vocabulary_uris : List Text
-vocabulary_uris =
-    codes "https://json-schema.org/draft/2019-09/meta/core" ∷
-    codes "https://json-schema.org/draft/2019-09/meta/applicator" ∷
-    codes "https://json-schema.org/draft/2019-09/meta/validation" ∷
-    codes "https://json-schema.org/draft/2019-09/meta/meta-data" ∷
-    codes "https://json-schema.org/draft/2019-09/meta/format" ∷
-    codes "https://json-schema.org/draft/2019-09/meta/content" ∷
-    codes "https://json-schema.org/draft/2020-12/meta/core" ∷
-    codes "https://json-schema.org/draft/2020-12/meta/applicator" ∷
-    codes "https://json-schema.org/draft/2020-12/meta/unevaluated" ∷
-    codes "https://json-schema.org/draft/2020-12/meta/validation" ∷
-    codes "https://json-schema.org/draft/2020-12/meta/meta-data" ∷
-    codes "https://json-schema.org/draft/2020-12/meta/format-annotation" ∷
-    codes "https://json-schema.org/draft/2020-12/meta/format-assertion" ∷
-    codes "https://json-schema.org/draft/2020-12/meta/content" ∷
-    []

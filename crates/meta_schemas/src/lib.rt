@@ -8,8 +8,7 @@
 
 ghost use Rattle.std.specs.Prelude.{◌≡◌, map};
 ghost use Rattle.schema_drafts.specs.KeywordViews.{draft_of};
-ghost use Rattle.meta_schemas.specs.declared.MetaSchema.{MetaSchema};
-ghost use Rattle.meta_schemas.specs.MetaUris.{uri_of, vocabulary_uris};
+ghost use Rattle.meta_schemas.specs.MetaTexts.{schema_text, vocabulary_texts, written};
 
 mod draft2019_09;
 mod draft2020_12;
@@ -28,9 +27,73 @@ pub struct MetaSchema {
     pub text: &'static str,
 }
 
+/// The meta-schemas of the vocabularies of 2019-09.
+static OF_2019_09: [MetaSchema; 6] = [
+    MetaSchema {
+        uri: "https://json-schema.org/draft/2019-09/meta/core",
+        text: draft2019_09::CORE,
+    },
+    MetaSchema {
+        uri: "https://json-schema.org/draft/2019-09/meta/applicator",
+        text: draft2019_09::APPLICATOR,
+    },
+    MetaSchema {
+        uri: "https://json-schema.org/draft/2019-09/meta/validation",
+        text: draft2019_09::VALIDATION,
+    },
+    MetaSchema {
+        uri: "https://json-schema.org/draft/2019-09/meta/meta-data",
+        text: draft2019_09::META_DATA,
+    },
+    MetaSchema {
+        uri: "https://json-schema.org/draft/2019-09/meta/format",
+        text: draft2019_09::FORMAT,
+    },
+    MetaSchema {
+        uri: "https://json-schema.org/draft/2019-09/meta/content",
+        text: draft2019_09::CONTENT,
+    },
+];
+
+/// The meta-schemas of the vocabularies of 2020-12.
+static OF_2020_12: [MetaSchema; 8] = [
+    MetaSchema {
+        uri: "https://json-schema.org/draft/2020-12/meta/core",
+        text: draft2020_12::CORE,
+    },
+    MetaSchema {
+        uri: "https://json-schema.org/draft/2020-12/meta/applicator",
+        text: draft2020_12::APPLICATOR,
+    },
+    MetaSchema {
+        uri: "https://json-schema.org/draft/2020-12/meta/unevaluated",
+        text: draft2020_12::UNEVALUATED,
+    },
+    MetaSchema {
+        uri: "https://json-schema.org/draft/2020-12/meta/validation",
+        text: draft2020_12::VALIDATION,
+    },
+    MetaSchema {
+        uri: "https://json-schema.org/draft/2020-12/meta/meta-data",
+        text: draft2020_12::META_DATA,
+    },
+    MetaSchema {
+        uri: "https://json-schema.org/draft/2020-12/meta/format-annotation",
+        text: draft2020_12::FORMAT_ANNOTATION,
+    },
+    MetaSchema {
+        uri: "https://json-schema.org/draft/2020-12/meta/format-assertion",
+        text: draft2020_12::FORMAT_ASSERTION,
+    },
+    MetaSchema {
+        uri: "https://json-schema.org/draft/2020-12/meta/content",
+        text: draft2020_12::CONTENT,
+    },
+];
+
 /// Returns the meta-schema of a draft. An unknown draft has that of 2020-12.
 pub fn meta_schema(draft: Draft) -> MetaSchema
-    ensures uri { result.uri.now ≡ uri_of (draft_of draft) }
+    ensures reads { written result ≡ schema_text (draft_of draft) }
 {
     match draft {
         Draft::Draft4 => MetaSchema {
@@ -56,66 +119,15 @@ pub fn meta_schema(draft: Draft) -> MetaSchema
     }
 }
 
-/// Returns the meta-schemas of the vocabularies of 2019-09, then of 2020-12.
-pub fn vocabulary_meta_schemas() -> [MetaSchema; 14]
-    ensures uris { map (λ (m : MetaSchema). m.uri.now) result ≡ vocabulary_uris }
+/// Returns the meta-schemas of a draft's vocabularies.
+///
+/// Before 2019-09 there are none. An unknown draft has those of 2020-12.
+pub fn vocabulary_meta_schemas(draft: Draft) -> &'static [MetaSchema]
+    ensures reads { map written result.now ≡ vocabulary_texts (draft_of draft) }
 {
-    [
-        MetaSchema {
-            uri: "https://json-schema.org/draft/2019-09/meta/core",
-            text: draft2019_09::CORE,
-        },
-        MetaSchema {
-            uri: "https://json-schema.org/draft/2019-09/meta/applicator",
-            text: draft2019_09::APPLICATOR,
-        },
-        MetaSchema {
-            uri: "https://json-schema.org/draft/2019-09/meta/validation",
-            text: draft2019_09::VALIDATION,
-        },
-        MetaSchema {
-            uri: "https://json-schema.org/draft/2019-09/meta/meta-data",
-            text: draft2019_09::META_DATA,
-        },
-        MetaSchema {
-            uri: "https://json-schema.org/draft/2019-09/meta/format",
-            text: draft2019_09::FORMAT,
-        },
-        MetaSchema {
-            uri: "https://json-schema.org/draft/2019-09/meta/content",
-            text: draft2019_09::CONTENT,
-        },
-        MetaSchema {
-            uri: "https://json-schema.org/draft/2020-12/meta/core",
-            text: draft2020_12::CORE,
-        },
-        MetaSchema {
-            uri: "https://json-schema.org/draft/2020-12/meta/applicator",
-            text: draft2020_12::APPLICATOR,
-        },
-        MetaSchema {
-            uri: "https://json-schema.org/draft/2020-12/meta/unevaluated",
-            text: draft2020_12::UNEVALUATED,
-        },
-        MetaSchema {
-            uri: "https://json-schema.org/draft/2020-12/meta/validation",
-            text: draft2020_12::VALIDATION,
-        },
-        MetaSchema {
-            uri: "https://json-schema.org/draft/2020-12/meta/meta-data",
-            text: draft2020_12::META_DATA,
-        },
-        MetaSchema {
-            uri: "https://json-schema.org/draft/2020-12/meta/format-annotation",
-            text: draft2020_12::FORMAT_ANNOTATION,
-        },
-        MetaSchema {
-            uri: "https://json-schema.org/draft/2020-12/meta/format-assertion",
-            text: draft2020_12::FORMAT_ASSERTION,
-        },
-        MetaSchema {
-            uri: "https://json-schema.org/draft/2020-12/meta/content",
-            text: draft2020_12::CONTENT,
-        },
-    ]
+    match draft {
+        Draft::Draft4 | Draft::Draft6 | Draft::Draft7 => &[],
+        Draft::Draft201909 => &OF_2019_09,
+        Draft::Draft202012 | Draft::Unknown => &OF_2020_12,
+    }
 }

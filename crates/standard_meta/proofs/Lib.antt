@@ -1,1 +1,3 @@
+pub mod Keeping
 pub mod Meanings
+pub mod TextReads

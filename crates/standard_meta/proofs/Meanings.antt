@@ -1,7 +1,5 @@
 -- The validator of a meta-schema, by the parts and options of its build.
-use Rattle.std.proofs.Common.{Err, IfOk, List, Ok, Result, Some, ap, subst, sym, ℕ, ◌∙◌, ◌≡◌}
-use Rattle.std.specs.Prelude.{Contains, slice_get}
-use Rattle.std.proofs.lemmas.Option.{get_or_from_slice_get, slice_get_within}
+use Rattle.std.proofs.Common.{Err, IfOk, List, Ok, Result, [], ap, map, subst, sym, ◌∙◌, ◌≡◌}
 use Rattle.serde_json.specs.Data.{Data}
 use Rattle.serde_json.specs.View.{view}
 use Rattle.theory_definitions.specs.Drafts.{Draft}
@@ -15,11 +13,13 @@ use Rattle.schema_validator.specs.BuildResults.{IsBuilt}
 use Rattle.schema_validator.specs.Called.{IsCompiledFrom, MeansPlainly}
 use Rattle.schema_validator.specs.Handed.{Handed, Options, handed}
 use Rattle.schema_compiled.specs.Program.{Program}
-use Rattle.standard_resolver.specs.ResolverDocuments.{HeldDocuments, GivenDocument}
+use Rattle.standard_resolver.specs.ResolverDocuments.{GivenDocument, HasCustom, HasDrafts, HeldDocuments}
+use Rattle.standard_subschemas.specs.declared.rules.Rule.TheVariants.{Narrow}
 use Rattle.standard_keywords.specs.declared.patterns.UnreadablePatterns.TheVariants as unreadable
 use Rattle.standard_keywords.specs.declared.table.StandardTable.{StandardTable}
-use Rattle.meta_schemas.specs.MetaUris.{uri_of}
-use Rattle.standard_meta.specs.DraftMeanings.{IsCompiledOf, MeansDraft, handed_by, regexes, unchecked}
+use Rattle.meta_schemas.specs.MetaTexts.{schema_text, vocabulary_texts}
+use Rattle.standard_meta.specs.DraftMeanings.{IsCompiledOf, MeansDraft, handed_by, of_meta_schemas, regexes, unchecked}
+use Rattle.standard_meta.specs.MetaDocuments.{AreRead, read_of, reading_of}
 
 module _ {State S C Maker Run K : Type 0} (resolvers : ResolverMembers HeldDocuments State S) (tables : TableMembers StandardTable C Maker Run K)
     (keywords : KeywordMembers C Run K) (r : HeldDocuments) (m : Treatment) (table : StandardTable) (options : Options) (schema : Data)
@@ -43,20 +43,24 @@ module _ {State S C Maker Run K : Type 0} (resolvers : ResolverMembers HeldDocum
     }
     compiled_by (Err e) refuses off checks built = tt
 
--- the document with an index is among the documents
-among_documents : (documents : List GivenDocument) (k : ℕ) (d : GivenDocument) → slice_get documents k ≡ Some d → Contains documents d
-among_documents documents k d at = (k, slice_get_within documents k d at, get_or_from_slice_get documents k d d at)
-
 module _ {State S C Maker Run K : Type 0} (resolvers : ResolverMembers HeldDocuments State S) (tables : TableMembers StandardTable C Maker Run K)
-    (keywords : KeywordMembers C Run K) (documents : List GivenDocument) (draft : Draft) (r : HeldDocuments) (m : Treatment) (root : GivenDocument) where
-  pub means_draft : (k : ℕ) (v p : Program C Treatment) → slice_get documents k ≡ Some root → root.uri ≡ uri_of draft → r.uri ≡ root.uri → r.document ≡ root.value
-      → IsCompiledOf resolvers tables keywords r m (view root.value) v → p ≡ v → MeansDraft resolvers tables keywords documents draft p
-  means_draft k v p at uri same_uri same_document compiled same = record {
+    (keywords : KeywordMembers C Run K) (draft : Draft) (r : HeldDocuments) (m : Treatment) (root : GivenDocument) (others : List GivenDocument) where
+  -- a meta-schema that was read and compiled by this resolver and this matcher
+  pub means_draft : (v p : Program C Treatment) → r.rule ≡ Narrow → r.uri ≡ root.uri → r.document ≡ root.value → r.others ≡ others
+      → r.default_draft ≡ draft → HasDrafts [] r.vocabularies → HasCustom [] r.vocabularies → m ≡ of_meta_schemas
+      → IsCompiledOf resolvers tables keywords r m (view root.value) v → p ≡ v
+      → read_of root ≡ reading_of (schema_text draft) → AreRead (vocabulary_texts draft) others
+      → MeansDraft resolvers tables keywords draft p
+  means_draft v p rule same_uri same_document same_others default drafts custom matcher compiled same root_read others_read = record {
     resolver = r;
-    matcher = m;
-    uri = same_uri ∙ uri;
-    among = subst (λ d. Contains documents d) (ap (λ u. record { uri = u; value = root.value }) (sym same_uri)
-        ∙ ap (λ x. record { uri = r.uri; value = x }) (sym same_document)) (among_documents documents k root at);
-    compiled = subst (λ x. IsCompiledOf resolvers tables keywords r m (view x) p) (sym same_document)
-        (subst (λ q. IsCompiledOf resolvers tables keywords r m (view root.value) q) (sym same) compiled);
+    rule = rule;
+    document = ap (λ u. read_of (record { uri = u; value = r.document })) same_uri
+        ∙ ap (λ x. read_of (record { uri = root.uri; value = x })) same_document ∙ root_read;
+    others = ap (map read_of) same_others ∙ others_read;
+    default_draft = default;
+    drafts = drafts;
+    custom = custom;
+    compiled = subst (λ x. IsCompiledOf resolvers tables keywords r of_meta_schemas (view x) p) (sym same_document)
+        (subst (λ t. IsCompiledOf resolvers tables keywords r t (view root.value) p) matcher
+        (subst (λ q. IsCompiledOf resolvers tables keywords r m (view root.value) q) (sym same) compiled));
   }

@@ -1,16 +1,12 @@
 //! The meta-schemas as documents.
-ghost use Rattle.std.specs.Prelude.{◌≡◌, ◌++◌, IfOk, Some, map, slice_get};
-ghost use Rattle.serde_json.specs.Read.{read as read_text};
-ghost use Rattle.serde_json.specs.View.{view};
+ghost use Rattle.std.specs.Prelude.{◌≡◌, IfOk, map};
 ghost use Rattle.schema_drafts.specs.KeywordViews.{draft_of};
-ghost use Rattle.meta_schemas.specs.MetaUris.{uri_of, vocabulary_uris};
-ghost use Rattle.standard_meta.specs.MetaDocuments.{draft_uris, given_of, place_of, uris_of, AddsUris};
+ghost use Rattle.meta_schemas.specs.MetaTexts.{schema_text, texts_of, vocabulary_texts, written};
+ghost use Rattle.standard_meta.specs.MetaDocuments.{AddsRead, AreRead, given_of, known_drafts, read_of, reading_of, texts_of_each};
 
 use crate::error::MetaError;
 use meta_schemas::{MetaSchema, meta_schema, vocabulary_meta_schemas};
-use pattern_matcher::{PatternMatcher, Patterns, Treatment, Unreadable};
 use schema_engine::Draft;
-use schema_reports::OutOfMemory;
 use serde_json::Value;
 use std::alloc::Global;
 use std::marker::Model;
@@ -22,31 +18,35 @@ pub struct MetaDocument {
     pub value: Value,
 }
 
-/// The meta-schemas of drafts and vocabularies, and a matcher that has their patterns.
+/// The meta-schemas of all drafts and vocabularies, which references may lead to.
 #[derive(Drop)]
 pub struct MetaDocuments {
     documents: Vec<MetaDocument>,
-    matcher: PatternMatcher,
 }
 
 impl Model for MetaDocuments {
-    ghost use Rattle.std.specs.Prelude.{◌≡◌, map};
+    ghost use Rattle.std.specs.Prelude.{List, map};
     ghost use Rattle.std.specs.Coded.{codes};
     ghost use Rattle.serde_json.specs.contracts.value.Value as value;
-    ghost use Rattle.standard_meta.specs.MetaDocuments.{MetaSchemas, given_of, meta_uris, uris_of};
+    ghost use Rattle.standard_resolver.specs.ResolverDocuments.{GivenDocument};
+    ghost use Rattle.standard_meta.specs.MetaDocuments.{given_of};
 
-    ghost Value = { MetaSchemas };
+    ghost Value = { List GivenDocument };
 
     ghost coded = { Prim.hlevel (codes, value.the_row.coded) };
 
-    ghost view = { λ m. record { documents = map given_of m.documents.items; matcher = m.matcher } };
+    ghost view = { λ m. map given_of m.documents.items };
+}
 
-    ghost invariant = { λ m. uris_of (map given_of m.documents.items) ≡ meta_uris };
+/// The meta-schema of a draft, and those of its vocabularies.
+#[derive(Drop)]
+pub(crate) struct DraftDocuments {
+    pub(crate) root: MetaDocument,
+    pub(crate) others: Vec<MetaDocument>,
 }
 
 fn read(alloc: Global, schema: MetaSchema) -> Result<MetaDocument, MetaError>
-    ensures uri { IfOk result (λ d. d.uri.now ≡ schema.uri.now) }
-    ensures value { IfOk result (λ d. read_text schema.text.now ≡ Some (view d.value)) }
+    ensures read { IfOk result (λ d. read_of (given_of d) ≡ reading_of (written schema)) }
 {
     Ok(MetaDocument {
         uri: schema.uri,
@@ -54,95 +54,69 @@ fn read(alloc: Global, schema: MetaSchema) -> Result<MetaDocument, MetaError>
     })
 }
 
-fn add_drafts(alloc: Global, documents: &mut Vec<MetaDocument>) -> Result<(), MetaError>
-    ensures added { AddsUris result documents.old documents.new draft_uris }
+fn add_each(
+    alloc: Global,
+    schemas: &[MetaSchema],
+    documents: &mut Vec<MetaDocument>,
+) -> Result<(), MetaError>
+    ensures added { AddsRead result documents.old documents.new (map written schemas.now) }
 {
-    for draft in [
-        Draft::Draft4,
-        Draft::Draft6,
-        Draft::Draft7,
-        Draft::Draft201909,
-        Draft::Draft202012,
-    ] {
-        documents.push(read(alloc, meta_schema(draft))?)?;
+    for schema in schemas {
+        documents.push(read(alloc, *schema)?)?;
     }
     Ok(())
 }
 
-fn add_vocabularies(alloc: Global, documents: &mut Vec<MetaDocument>) -> Result<(), MetaError>
-    ensures added { AddsUris result documents.old documents.new vocabulary_uris }
+fn add_draft(
+    alloc: Global,
+    draft: Draft,
+    documents: &mut Vec<MetaDocument>,
+) -> Result<(), MetaError>
+    ensures added { AddsRead result documents.old documents.new (texts_of (draft_of draft)) }
 {
-    for schema in vocabulary_meta_schemas() {
-        documents.push(read(alloc, schema)?)?;
-    }
-    Ok(())
+    documents.push(read(alloc, meta_schema(draft))?)?;
+    add_each(alloc, vocabulary_meta_schemas(draft), documents)
 }
 
-fn read_all(alloc: Global) -> Result<Vec<MetaDocument>, MetaError>
-    ensures uris { IfOk result (λ ds. uris_of (map given_of ds.items) ≡ draft_uris ++ vocabulary_uris) }
+/// Reads the meta-schema of a draft, and those of its vocabularies.
+pub(crate) fn read_draft(alloc: Global, draft: Draft) -> Result<DraftDocuments, MetaError>
+    ensures root { IfOk result (λ d. read_of (given_of d.root) ≡ reading_of (schema_text (draft_of draft))) }
+    ensures others { IfOk result (λ d. AreRead (vocabulary_texts (draft_of draft)) (map given_of d.others.items)) }
 {
-    let mut documents = Vec::new(alloc);
-    add_drafts(alloc, &mut documents)?;
-    add_vocabularies(alloc, &mut documents)?;
-    Ok(documents)
-}
-
-// Makes the matcher of the meta-schemas. It finishes every match.
-fn matcher_of(alloc: Global, documents: &[MetaDocument]) -> Result<PatternMatcher, OutOfMemory> {
-    let mut values = Vec::new(alloc);
-    for document in documents {
-        values.push(&document.value)?;
-    }
-    let patterns = Patterns::for_schemas(alloc, values.as_slice())?;
-    let treatment = Treatment {
-        unreadable: Unreadable::MatchesNothing,
-        limit: None,
-    };
-    PatternMatcher::with_treatment(alloc, patterns, treatment)
+    let root = read(alloc, meta_schema(draft))?;
+    let mut others = Vec::new(alloc);
+    add_each(alloc, vocabulary_meta_schemas(draft), &mut others)?;
+    Ok(DraftDocuments { root, others })
 }
 
 impl MetaDocuments {
-    /// Reads the meta-schemas and their patterns.
+    /// Reads the meta-schemas.
     ///
     /// # Errors
     ///
     /// Out of memory. The other errors do not occur: each meta-schema is JSON.
-    pub fn new(alloc: Global) -> Result<MetaDocuments, MetaError> {
-        let documents = read_all(alloc)?;
-        let matcher = matcher_of(alloc, documents.as_slice())?;
-        Ok(MetaDocuments { documents, matcher })
+    pub fn new(alloc: Global) -> Result<MetaDocuments, MetaError>
+        ensures read { IfOk result (AreRead (texts_of_each known_drafts)) }
+    {
+        let mut documents = Vec::new(alloc);
+        for draft in [
+            Draft::Draft4,
+            Draft::Draft6,
+            Draft::Draft7,
+            Draft::Draft201909,
+            Draft::Draft202012,
+        ] {
+            add_draft(alloc, draft, &mut documents)?;
+        }
+        Ok(MetaDocuments { documents })
     }
 
     /// Returns the meta-schemas.
     ///
-    /// Those of the drafts come first, the oldest first, and then those of the vocabularies.
+    /// The oldest draft's comes first. Behind a draft's meta-schema stand those of its vocabularies.
     pub fn documents(&self) -> &[MetaDocument]
-        ensures documents { map given_of result.now ≡ self.now.documents }
+        ensures documents { map given_of result.now ≡ self.now }
     {
         self.documents.as_slice()
-    }
-
-    /// Returns the matcher that has the patterns of the meta-schemas.
-    pub fn matcher(&self) -> &PatternMatcher
-        ensures matcher { result.now ≡ self.now.matcher }
-    {
-        &self.matcher
-    }
-
-    /// Returns the meta-schema of a draft.
-    ///
-    /// An unknown draft has that of 2020-12.
-    pub fn of_draft(&self, draft: Draft) -> &MetaDocument
-        ensures document { slice_get self.now.documents (place_of (draft_of draft)) ≡ Some (given_of result.now) }
-        ensures uri { result.now.uri.now ≡ uri_of (draft_of draft) }
-    {
-        let number = match draft {
-            Draft::Draft4 => 0,
-            Draft::Draft6 => 1,
-            Draft::Draft7 => 2,
-            Draft::Draft201909 => 3,
-            Draft::Draft202012 | Draft::Unknown => 4,
-        };
-        &self.documents[number]
     }
 }

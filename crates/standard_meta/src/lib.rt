@@ -11,5 +11,5 @@ mod wholeness;
 
 pub use documents::{MetaDocument, MetaDocuments};
 pub use error::MetaError;
-pub use meta::StandardMeta;
+pub use meta::{MetaSchemas, StandardChecker};
 pub use wholeness::StandardFractions;

@@ -3,7 +3,7 @@ use Rattle.std.proofs.lemmas.Result.{IfErr-weaker, IfOk-weaker}
 use Rattle.serde_json.specs.View.{view}
 use Rattle.jsonschema.proofs.Builds.{built_of, refused_of}
 use Rattle.jsonschema.specs.Sources.{IsResolverOf, SchemaSources}
-use Rattle.jsonschema.proofs.building.build.Goals as goal
+use Rattle.jsonschema.proofs.building.build_of.Goals as goal
 
 pub returns-clause-built : goal.returns-clause-built
 returns-clause-built g c =

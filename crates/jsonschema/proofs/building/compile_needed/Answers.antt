@@ -1,0 +1,8 @@
+use Rattle.jsonschema.proofs.Handing.{done_told}
+use Rattle.jsonschema.proofs.building.compile_needed.Goals as goal
+
+pub returns-in-Some-clause-needed : goal.returns-in-Some-clause-needed
+returns-in-Some-clause-needed c = done_told c.compile.result c.told_of_metas.result c.told_of_metas.ensures.same c.compile.ensures.compiled
+
+pub returns-in-None-clause-needed : goal.returns-in-None-clause-needed
+returns-in-None-clause-needed c = done_told c.compile_each.result c.told_of_metas.result c.told_of_metas.ensures.same c.compile_each.ensures.compiled

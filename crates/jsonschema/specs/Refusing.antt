@@ -1,0 +1,22 @@
+-- What an error of this library says of the engine's.
+use Rattle.std.specs.Prelude.{Err, Ok, Result, ◌≡◌}
+use Rattle.schema_keys.specs.declared.error.BuildError as engine
+use Rattle.jsonschema.specs.declared.error.BuildError.{BuildError}
+use Rattle.jsonschema.specs.declared.error.BuildError.TheVariants.{MetaSchemas, OutOfMemory, Refused}
+
+-- it tells this refusal; want of memory tells nothing
+abbrev pub Tells : engine.BuildError → BuildError → Type 0
+Tells refused (Refused e) = e ≡ refused
+Tells refused (MetaSchemas e) = ⊥
+Tells refused OutOfMemory = Unit {0}
+
+-- it tells what a result refuses
+abbrev pub TellsOf : {T : Type 0} → Result T engine.BuildError → BuildError → Type 0
+TellsOf (Ok v) e = ⊥
+TellsOf (Err refused) e = Tells refused e
+
+-- it refuses no schema
+abbrev pub IsUnrefused : BuildError → Type 0
+IsUnrefused (Refused e) = ⊥
+IsUnrefused (MetaSchemas e) = Unit {0}
+IsUnrefused OutOfMemory = Unit {0}
