@@ -18,3 +18,6 @@ pub mod OwnErrors
 pub mod Meanings
 pub mod RunWays
 pub mod UnmetWords
+pub mod UnexpectedWords
+pub mod TakenTurns
+pub mod MakerWords

@@ -56,9 +56,13 @@ dependencies_script name d = malformed name d
 
 -- ---- `items` and `additionalItems`
 
+-- the number of schemas of `prefixItems`
+abbrev pub prefix_length : Members → ℕ
+prefix_length ms = count_in (option_and_then as_array (get_member (codes "prefixItems") ms))
+
 -- the number of items that `items` with one schema skips
 abbrev pub items_before : Draft → Members → ℕ
-items_before draft ms = if has_prefix draft then count_in (option_and_then as_array (get_member (codes "prefixItems") ms)) else 0
+items_before draft ms = if has_prefix draft then prefix_length ms else 0
 
 -- a list of schemas, in the drafts that allow a list (Core 2019-09, 9.3.1.1)
 abbrev pub is_older_list : Draft → Data → Bool

@@ -1,10 +1,8 @@
 //! The effect of the draft and of neighbouring members on the items' keywords.
-ghost use Rattle.std.specs.Prelude.{◌≡◌, codes, option_and_then};
-ghost use Rattle.serde_json.specs.Find.{as_array, get_member};
+ghost use Rattle.std.specs.Prelude.{◌≡◌};
 ghost use Rattle.serde_json.specs.View.{view};
 ghost use Rattle.schema_drafts.specs.KeywordViews.{draft_of};
-ghost use Rattle.keyword_authoring.specs.Items.{count_in};
-ghost use Rattle.standard_applicators.specs.Makers.{has_prefix, is_false, is_older_list, items_before, listed_beside};
+ghost use Rattle.standard_applicators.specs.Makers.{has_prefix, is_false, is_older_list, items_before, listed_beside, prefix_length};
 ghost use Rattle.schema_traits.specs.Readings.{fields};
 
 use keyword_makers::{list_length, value_in};
@@ -35,7 +33,7 @@ pub fn is_older_list(draft: Draft, value: &Value) -> bool
 
 /// Returns the number of schemas in `prefixItems`.
 fn prefix_length(object: &Map<String, Value>) -> usize
-    ensures length { result ≡ count_in (option_and_then as_array (get_member (codes "prefixItems") (fields object.now))) }
+    ensures length { result ≡ prefix_length (fields object.now) }
 {
     match value_in(object, "prefixItems") {
         Some(value) => list_length(value),

@@ -2,14 +2,10 @@
 //!
 //! The keyword reports its own errors before those of its schemas. So if a first error is requested
 //! and a member is missing, no child is evaluated.
-ghost use Rattle.std.specs.Prelude.{◌≡◌, [], IfOk, if◌then◌else◌, map, string_bytes};
-ghost use Rattle.theory_definitions.specs.Instance.{Subject};
-ghost use Rattle.keyword_authoring.specs.Ways.{at_first};
+ghost use Rattle.std.specs.Prelude.{◌≡◌, IfOk};
 ghost use Rattle.standard_applicators.specs.Courses.{wants_one};
-ghost use Rattle.standard_applicators.specs.Dependents.{dependents_from};
-ghost use Rattle.keyword_authoring.specs.AnswerWords.{Becomes};
 ghost use Rattle.standard_applicators.specs.RunWays.{StepsCourse, TurnsCourse, dependencies_course};
-ghost use Rattle.standard_applicators.specs.UnmetWords.{EndsByUnmet, with_unmet};
+ghost use Rattle.standard_applicators.specs.UnmetWords.{AskUnless, EndsByUnmet, TellsUnmet};
 ghost use Rattle.keyword_authoring.specs.Borrowing.{Borrows, Retains};
 
 use crate::dependents::turn_dependents;
@@ -41,8 +37,7 @@ fn tell_first<'i>(
     instance: Instance<'i>,
     answer: &mut Answer<'i>,
 ) -> Result<bool, OutOfMemory>
-    ensures told { IfOk result (λ _. Becomes answer.old (λ texts a. at_first run.now.stage
-        (with_unmet wants.now instance.entry run.now.mode texts a) a) answer.new) }
+    ensures told { TellsUnmet wants.now instance.entry run.now answer.old answer.new result }
     ensures ends { IfOk result (EndsByUnmet wants.now instance.entry run.now) }
     ensures borrows { Retains answer.old answer.new result }
 {
@@ -57,8 +52,7 @@ fn tell_first<'i>(
 
 /// Returns the names whose schemas are evaluated: none if the run ends.
 fn asked_names(ends: bool, names: &[String]) -> &[String]
-    ensures asked { (s : Subject) → dependents_from 0 (map string_bytes result.now) s
-        ≡ (if ends then [] else dependents_from 0 (map string_bytes names.now) s) }
+    ensures asked { AskUnless ends names.now result.now }
 {
     if ends { &[] } else { names }
 }

@@ -4,8 +4,8 @@ ghost use Rattle.keyword_authoring.specs.Items.{child_here};
 ghost use Rattle.keyword_authoring.specs.Somes.{some_from};
 ghost use Rattle.keyword_authoring.specs.Ways.{passes_some};
 ghost use Rattle.keyword_authoring.specs.SomeWords.{AsksSome, StandsAtSome};
-ghost use Rattle.keyword_authoring.specs.TurnWords.{Steps, Turns};
 ghost use Rattle.standard_applicators.specs.RunWays.{dependents_asked};
+ghost use Rattle.standard_applicators.specs.TakenTurns.{IsTurn};
 ghost use Rattle.keyword_authoring.specs.Borrowing.{Borrows};
 
 use keyword_authoring::{Progress, Stage, has_member, onward};
@@ -25,9 +25,8 @@ pub fn turn_dependents<'s, 'i>(
     reply: Reply<'i>,
     answer: &mut Answer<'i>,
 ) -> Result<Step<'s>, OutOfMemory>
-    ensures turns { Turns (passes_some (dependents_asked names.now instance.entry)) run.old answer.old reply.entry run.new answer.new
+    ensures turn { IsTurn (passes_some (dependents_asked names.now instance.entry)) run.old answer.old reply.entry run.new answer.new
         result }
-    ensures steps { Steps (passes_some (dependents_asked names.now instance.entry)) run.old answer.old reply.entry result }
     ensures borrows { Borrows reply.entry answer.old answer.new result }
 {
     let start = onward(alloc, names.len(), run, reply, answer)?;

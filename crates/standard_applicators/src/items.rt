@@ -4,8 +4,8 @@ ghost use Rattle.schema_reports.specs.InstanceViews.{subject_of};
 ghost use Rattle.schema_traits.specs.KeywordViews.{turn_of};
 ghost use Rattle.keyword_authoring.specs.Items.{child_at_item, first_at_item, item_count};
 ghost use Rattle.keyword_authoring.specs.Ways.{asked};
-ghost use Rattle.keyword_authoring.specs.TurnWords.{Steps, Turns};
 ghost use Rattle.standard_applicators.specs.RunWays.{at_later, at_listed};
+ghost use Rattle.standard_applicators.specs.TakenTurns.{IsTurn};
 ghost use Rattle.keyword_authoring.specs.Borrowing.{Borrows};
 
 use keyword_authoring::{Progress, item_count, next_number};
@@ -42,8 +42,7 @@ pub fn turn_listed_items<'s, 'i>(
     reply: Reply<'i>,
     answer: &mut Answer<'i>,
 ) -> Result<Step<'s>, OutOfMemory>
-    ensures turns { Turns (at_listed children instance.entry) run.old answer.old reply.entry run.new answer.new result }
-    ensures steps { Steps (at_listed children instance.entry) run.old answer.old reply.entry result }
+    ensures turn { IsTurn (at_listed children instance.entry) run.old answer.old reply.entry run.new answer.new result }
     ensures borrows { Borrows reply.entry answer.old answer.new result }
 {
     let count = listed_count(children, instance);
@@ -63,8 +62,7 @@ pub fn turn_later_items<'s, 'i>(
     reply: Reply<'i>,
     answer: &mut Answer<'i>,
 ) -> Result<Step<'s>, OutOfMemory>
-    ensures turns { Turns (at_later before instance.entry) run.old answer.old reply.entry run.new answer.new result }
-    ensures steps { Steps (at_later before instance.entry) run.old answer.old reply.entry result }
+    ensures turn { IsTurn (at_later before instance.entry) run.old answer.old reply.entry run.new answer.new result }
     ensures borrows { Borrows reply.entry answer.old answer.new result }
 {
     let count = items_after(before, instance);

@@ -1,12 +1,9 @@
 //! The table of the keywords.
-ghost use Rattle.std.specs.Prelude.{IfOk};
-ghost use Rattle.serde_json.specs.Find.{get_member};
 ghost use Rattle.serde_json.specs.View.{view};
-ghost use Rattle.schema_drafts.specs.KeywordViews.{builtin_text, draft_of};
-ghost use Rattle.keyword_makers.specs.MakerViews.{waiting_of, Begins};
-ghost use Rattle.standard_applicators.specs.Makers.{additional_items_script, after_listed, contains_script, dependent_schemas_script};
-ghost use Rattle.standard_applicators.specs.Makers.{dependencies_script, items_script, member_script, value_script};
-ghost use Rattle.schema_traits.specs.Readings.{fields};
+ghost use Rattle.keyword_makers.specs.MakerViews.{waiting_of};
+ghost use Rattle.standard_applicators.specs.MakerWords.{Follows, script_of_contains, script_of_items, script_of_member, script_of_others};
+ghost use Rattle.standard_applicators.specs.MakerWords.{script_of_value};
+ghost use Rattle.standard_applicators.specs.Makers.{after_listed, dependencies_script, dependent_schemas_script};
 
 use crate::applicator::StandardApplicator;
 use crate::beside::{is_false, is_older_list, items_before, listed_beside};
@@ -44,7 +41,7 @@ fn contains_maker(
     object: &Map<String, Value>,
     draft: Draft,
 ) -> Result<Maker, OutOfMemory>
-    ensures maker { IfOk result (Begins (λ k. k) (contains_script (draft_of draft) (fields object.now) name.now)) }
+    ensures maker { Follows result (script_of_contains draft object.now name.now) }
 {
     if let Some(value) = refused_limit(draft, "minContains", object) {
         return malformed(alloc, "minContains", value);
@@ -62,7 +59,7 @@ fn contains_maker(
 
 /// Returns the maker of `dependentSchemas`.
 fn dependent_schemas_maker(alloc: Global, name: &str, value: &Value) -> Result<Maker, OutOfMemory>
-    ensures maker { IfOk result (Begins (λ k. k) (dependent_schemas_script name.now (view value.now))) }
+    ensures maker { Follows result (dependent_schemas_script name.now (view value.now)) }
 {
     match value.as_object() {
         Some(members) => {
@@ -77,7 +74,7 @@ fn dependent_schemas_maker(alloc: Global, name: &str, value: &Value) -> Result<M
 
 /// Returns the maker of `dependencies`.
 fn dependencies_maker(alloc: Global, name: &str, value: &Value) -> Result<Maker, OutOfMemory>
-    ensures maker { IfOk result (Begins (λ k. k) (dependencies_script name.now (view value.now))) }
+    ensures maker { Follows result (dependencies_script name.now (view value.now)) }
 {
     match value.as_object() {
         Some(members) if are_lists_of_texts(members) => {
@@ -99,7 +96,7 @@ fn items_maker(
     object: &Map<String, Value>,
     draft: Draft,
 ) -> Result<Maker, OutOfMemory>
-    ensures maker { IfOk result (Begins (λ k. k) (items_script (draft_of draft) (fields object.now) name.now (view value.now))) }
+    ensures maker { Follows result (script_of_items draft object.now name.now value.now) }
 {
     if is_older_list(draft, value) {
         let keyword = StandardApplicator::ListedItems(list_length(value));
@@ -118,7 +115,7 @@ fn after_listed(
     name: &str,
     value: &Value,
 ) -> Result<Maker, OutOfMemory>
-    ensures maker { IfOk result (Begins (λ k. k) (after_listed listed name.now (view value.now))) }
+    ensures maker { Follows result (after_listed listed name.now (view value.now)) }
 {
     match listed {
         None => Ok(ends(alloc, Ending::Nothing)),
@@ -141,7 +138,7 @@ fn additional_items_maker(
     object: &Map<String, Value>,
     draft: Draft,
 ) -> Result<Maker, OutOfMemory>
-    ensures maker { IfOk result (Begins (λ k. k) (additional_items_script (draft_of draft) (fields object.now) name.now (view value.now))) }
+    ensures maker { Follows result (script_of_others draft object.now name.now value.now) }
 {
     after_listed(alloc, listed_beside(draft, object), name, value)
 }
@@ -154,8 +151,7 @@ fn value_maker(
     object: &Map<String, Value>,
     draft: Draft,
 ) -> Result<Maker, OutOfMemory>
-    ensures maker { IfOk result (Begins (λ k. k) (value_script (draft_of draft) (fields object.now)
-        (builtin_text keyword) (view value.now))) }
+    ensures maker { Follows result (script_of_value draft object.now keyword value.now) }
 {
     let name = keyword.as_str();
     match keyword {
@@ -218,8 +214,7 @@ fn member_maker(
     object: &Map<String, Value>,
     draft: Draft,
 ) -> Result<Maker, OutOfMemory>
-    ensures maker { IfOk result (Begins (λ k. k) (member_script (draft_of draft) (fields object.now) (builtin_text keyword)
-        (get_member (builtin_text keyword) (fields object.now)))) }
+    ensures maker { Follows result (script_of_member draft object.now keyword) }
 {
     match value_in(object, keyword.as_str()) {
         Some(value) => value_maker(alloc, keyword, value, object, draft),

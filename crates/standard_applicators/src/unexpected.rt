@@ -1,10 +1,9 @@
 //! `additionalItems` with the value `false`: there are no later items.
-ghost use Rattle.std.specs.Prelude.{◌≡◌, ◌++◌, IfOk, false, string_bytes};
-ghost use Rattle.serde_json.specs.View.{items_view, view};
-ghost use Rattle.serde_json.specs.Written.{compact_text, has_float, items_have_float};
+ghost use Rattle.std.specs.Prelude.{◌≡◌};
+ghost use Rattle.serde_json.specs.View.{items_view};
 ghost use Rattle.schema_reports.specs.InstanceViews.{subject_of};
-ghost use Rattle.standard_applicators.specs.Unexpected.{items_after, listed, subject_items, were};
-ghost use Rattle.keyword_authoring.specs.TextWords.{Adds};
+ghost use Rattle.standard_applicators.specs.Unexpected.{items_after, subject_items, were};
+ghost use Rattle.standard_applicators.specs.UnexpectedWords.{AddsShown, ShowsListed};
 
 use keyword_authoring::{LeafKeyword, item_count};
 use schema_reports::{Instance, OutOfMemory};
@@ -23,8 +22,7 @@ fn push_shown(
     item: &Value,
     text: &mut String,
 ) -> Result<(), OutOfMemory>
-    ensures pushed { IfOk result (λ _. has_float (view item.now) ≡ false → Adds (before.now ++ compact_text (view item.now)) text.old
-        text.new) }
+    ensures pushed { AddsShown before.now item.now text.old text.new result }
 {
     let shown = item.to_string(alloc)?;
     text.push_str(before)?;
@@ -34,8 +32,7 @@ fn push_shown(
 
 /// Returns the texts of the values, with commas between them.
 fn listed(alloc: Global, items: &[Value]) -> Result<String, OutOfMemory>
-    ensures text { IfOk result (λ text. items_have_float (items_view items.now) ≡ false
-        → string_bytes text ≡ listed (items_view items.now)) }
+    ensures text { ShowsListed items.now result }
 {
     let mut text = String::new(alloc);
     let mut between = "";

@@ -4,10 +4,10 @@ use Rattle.keyword_authoring.specs.Items.{child_at_item, each_from}
 use Rattle.keyword_authoring.specs.Ways.{passes_on, way_step, way_turn}
 use Rattle.standard_applicators.proofs.items.turn_listed_items.Goals as goal
 
-pub returns-clause-turns : goal.returns-clause-turns
-returns-clause-turns c = λ texts. subst (λ n. way_turn (passes_on (each_from child_at_item 0 n)) (c.args.run.now, answer_of texts c.args.answer.now) (reply_of texts c.args.reply) ≡ (c.next_number.new.run, answer_of texts c.next_number.new.answer))
-    c.listed_count-count.ensures.count (c.in_ok-number.ensures.turns texts child_at_item)
-
-pub returns-clause-steps : goal.returns-clause-steps
-returns-clause-steps c = λ texts. subst (λ n. way_step (passes_on (each_from child_at_item 0 n)) (c.args.run.now, answer_of texts c.args.answer.now) (reply_of texts c.args.reply) ≡ turn_of c.ask_child_at_item.result)
-    c.listed_count-count.ensures.count (c.in_ok-number.ensures.steps texts child_at_item ∙ sym c.ask_child_at_item.ensures.step)
+pub returns-clause-turn : goal.returns-clause-turn
+returns-clause-turn c = record {
+  turns = λ texts. subst (λ n. way_turn (passes_on (each_from child_at_item 0 n)) (c.args.run.now, answer_of texts c.args.answer.now) (reply_of texts c.args.reply) ≡ (c.next_number.new.run, answer_of texts c.next_number.new.answer))
+      c.listed_count-count.ensures.count (c.in_ok-number.ensures.turns texts child_at_item);
+  steps = λ texts. subst (λ n. way_step (passes_on (each_from child_at_item 0 n)) (c.args.run.now, answer_of texts c.args.answer.now) (reply_of texts c.args.reply) ≡ turn_of c.ask_child_at_item.result)
+      c.listed_count-count.ensures.count (c.in_ok-number.ensures.steps texts child_at_item ∙ sym c.ask_child_at_item.ensures.step);
+}
