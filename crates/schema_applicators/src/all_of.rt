@@ -1,7 +1,6 @@
 //! The keyword `allOf`.
-ghost use Rattle.keyword_authoring.specs.Items.{child_here, each_from};
-ghost use Rattle.keyword_authoring.specs.Ways.{passes_on};
 ghost use Rattle.keyword_authoring.specs.TurnWords.{Steps, Turns};
+ghost use Rattle.schema_applicators.specs.RunWays.{asks_each};
 ghost use Rattle.keyword_authoring.specs.Borrowing.{Borrows};
 
 use keyword_authoring::{Progress, ask_here, next_number};
@@ -17,8 +16,8 @@ pub fn turn_all_of<'s, 'i>(
     reply: Reply<'i>,
     answer: &mut Answer<'i>,
 ) -> Result<Step<'s>, OutOfMemory>
-    ensures turns { Turns (passes_on (each_from child_here 0 count)) run.old answer.old reply.entry run.new answer.new result }
-    ensures steps { Steps (passes_on (each_from child_here 0 count)) run.old answer.old reply.entry result }
+    ensures turns { Turns (asks_each count) run.old answer.old reply.entry run.new answer.new result }
+    ensures steps { Steps (asks_each count) run.old answer.old reply.entry result }
     ensures borrows { Borrows reply.entry answer.old answer.new result }
 {
     let mode = run.mode;

@@ -1,5 +1,5 @@
 //! The keyword `anyOf`.
-ghost use Rattle.std.specs.Prelude.{true, OnOk};
+ghost use Rattle.std.specs.Prelude.{true};
 ghost use Rattle.schema_applicators.specs.Words.{any_of_tally};
 ghost use Rattle.keyword_authoring.specs.TurnWords.{StepsBy, TellsTurnBy};
 ghost use Rattle.schema_applicators.specs.RunWays.{TellsTally, judges_any_of};
@@ -19,7 +19,7 @@ fn tell_any_of<'i>(
     instance: Instance<'i>,
     answer: &mut Answer<'i>,
 ) -> Result<(), OutOfMemory>
-    ensures told { OnOk result (TellsTally true any_of_tally accepted instance.entry mode answer.old answer.new) }
+    ensures told { TellsTally true any_of_tally accepted instance.entry mode answer.old answer.new result }
     ensures borrows { Retains answer.old answer.new result }
 {
     if accepted > 0 {

@@ -1,11 +1,6 @@
 //! The keyword `not`.
-ghost use Rattle.std.specs.Prelude.{◌≡◌, false, not, IfOk, OnOk};
-ghost use Rattle.serde_json.specs.View.{view};
-ghost use Rattle.serde_json.specs.Written.{compact_text, has_float};
-ghost use Rattle.schema_applicators.specs.Words.{not_text};
-ghost use Rattle.keyword_authoring.specs.TextWords.{ShowsText};
 ghost use Rattle.keyword_authoring.specs.TurnWords.{StepsBy, TellsTurnBy};
-ghost use Rattle.schema_applicators.specs.RunWays.{TellsTally, judges_not, tally_of_not};
+ghost use Rattle.schema_applicators.specs.RunWays.{ShowsNot, TellsTally, is_whole, judges_not, tally_of_not};
 ghost use Rattle.keyword_authoring.specs.Borrowing.{Borrows, Retains};
 
 use keyword_authoring::{Judge, Judging, Progress, judge_children, note, refuse};
@@ -16,8 +11,7 @@ use std::alloc::Global;
 
 /// Returns the error's text.
 fn not_text(alloc: Global, schema: &Value, instance: Instance<'_>) -> Result<String, OutOfMemory>
-    ensures text { IfOk result (λ text. has_float (view schema.now) ≡ false → ShowsText instance.entry
-        (not_text (compact_text (view schema.now))) text) }
+    ensures text { ShowsNot schema.now instance.entry result }
 {
     let mut text = schema.to_string(alloc)?;
     text.push_str(" is not allowed for ")?;
@@ -35,8 +29,8 @@ fn tell_not<'i>(
     instance: Instance<'i>,
     answer: &mut Answer<'i>,
 ) -> Result<(), OutOfMemory>
-    ensures told { OnOk result (TellsTally (not (has_float (view schema.now))) (tally_of_not (view schema.now)) accepted instance.entry
-        mode answer.old answer.new) }
+    ensures told { TellsTally (is_whole schema.now) (tally_of_not schema.now) accepted instance.entry mode answer.old answer.new
+        result }
     ensures borrows { Retains answer.old answer.new result }
 {
     if accepted == 0 {
@@ -60,9 +54,9 @@ pub fn turn_not<'s, 'i>(
     reply: Reply<'i>,
     answer: &mut Answer<'i>,
 ) -> Result<Step<'s>, OutOfMemory>
-    ensures turns { TellsTurnBy (not (has_float (view schema.now))) (judges_not (view schema.now)) instance.entry run.old answer.old
-        reply.entry run.new answer.new result }
-    ensures steps { StepsBy (judges_not (view schema.now)) instance.entry run.old answer.old reply.entry result }
+    ensures turns { TellsTurnBy (is_whole schema.now) (judges_not schema.now) instance.entry run.old answer.old reply.entry run.new
+        answer.new result }
+    ensures steps { StepsBy (judges_not schema.now) instance.entry run.old answer.old reply.entry result }
     ensures borrows { Borrows reply.entry answer.old answer.new result }
 {
     let mode = run.mode;

@@ -1,5 +1,5 @@
 //! The keyword `oneOf`.
-ghost use Rattle.std.specs.Prelude.{true, IfOk, OnOk};
+ghost use Rattle.std.specs.Prelude.{true, IfOk};
 ghost use Rattle.schema_applicators.specs.Words.{many_text, one_of_tally};
 ghost use Rattle.keyword_authoring.specs.TextWords.{ShowsText};
 ghost use Rattle.keyword_authoring.specs.TurnWords.{StepsBy, TellsTurnBy};
@@ -29,7 +29,7 @@ fn tell_one_of<'i>(
     instance: Instance<'i>,
     answer: &mut Answer<'i>,
 ) -> Result<(), OutOfMemory>
-    ensures told { OnOk result (TellsTally true one_of_tally accepted instance.entry mode answer.old answer.new) }
+    ensures told { TellsTally true one_of_tally accepted instance.entry mode answer.old answer.new result }
     ensures borrows { Retains answer.old answer.new result }
 {
     if accepted == 1 {
