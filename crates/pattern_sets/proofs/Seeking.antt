@@ -1,11 +1,11 @@
 -- A search for a run of characters of one set that ends before a character of another.
-use Rattle.std.proofs.Common.{◌≡◌, ◌<◌, ◌≤◌, ◌||◌, ◌&&◌, ◌∙◌, ◌+◌, ◌-◌, ℕ, Bool, true, false, ap, refl, subst, sym, inl, inr, arith, nat_lt, true≢false, List, length, None}
+use Rattle.std.proofs.Common.{◌≡◌, ◌<◌, ◌≤◌, ◌||◌, ◌&&◌, ◌∙◌, ◌+◌, ◌-◌, ℕ, Bool, true, false, refl, subst, sym, inl, inr, arith, nat_lt, true≢false, List, length, None}
 use Rattle.std.specs.Prelude.{slice_index}
 use Rattle.std.proofs.lemmas.Bool.Decides.{nat_tests}
 use Rattle.pattern_trees.specs.Sets.{in_set}
-use Rattle.pattern_trees.specs.Patterns.{Matches, One, Repeat}
+use Rattle.pattern_trees.specs.Patterns.{One, Repeat}
 use Rattle.pattern_sets.specs.Images.{IsTaken, Joined, Reaches, Runs, leads}
-use Rattle.pattern_sets.proofs.Leading.{or_left, or_right, or_true}
+use Rattle.pattern_sets.proofs.Leading.{or_true}
 use Rattle.pattern_sets.proofs.Running.{iterates_runs, runs_iterates}
 use Rattle.pattern_sets.proofs.Walking.{and_both, and_left, and_right}
 

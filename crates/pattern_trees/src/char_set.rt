@@ -1,7 +1,9 @@
 //! Sets of characters.
-ghost use Rattle.std.specs.Prelude.{◌≡◌, ◌<◌, ◌≤◌, ◌+◌, ◌==◌, ℕ, true, if◌then◌else◌};
+ghost use Rattle.std.specs.Prelude.{◌≡◌, ◌<◌, ◌≤◌, ◌+◌, ◌++◌, ◌==◌, ℕ, IfOk, true, if◌then◌else◌};
 ghost use Rattle.std.specs.Int.{bit_at};
 ghost use Rattle.pattern_trees.specs.Sets.{IsInOrder, in_set};
+
+use std::alloc::{AllocError, Global};
 
 /// A set of characters: spans from a first to a last code point.
 ///
@@ -24,9 +26,9 @@ impl CharSet {
     pub fn new(spans: Vec<(u32, u32)>) -> CharSet
         ensures spans { result.spans ≡ spans }
     {
-        let low = bits_from(spans.as_slice(), 0);
-        let mid = bits_from(spans.as_slice(), 64);
         let is_in_order = are_in_order(spans.as_slice());
+        let low = bits_from(spans.as_slice(), is_in_order, 0);
+        let mid = bits_from(spans.as_slice(), is_in_order, 64);
         CharSet {
             spans,
             low,
@@ -45,10 +47,40 @@ impl CharSet {
             let word = if c < 64 { self.low } else { self.mid };
             return (word >> (c % 64)) & 1 == 1;
         }
-        if self.is_in_order {
-            return is_found(self.spans.as_slice(), c);
-        }
-        is_in(self.spans.as_slice(), c)
+        is_member(self.spans.as_slice(), self.is_in_order, c)
+    }
+
+    /// Returns a copy.
+    ///
+    /// # Errors
+    ///
+    /// Fails only if memory cannot be allocated.
+    pub fn copy(&self) -> Result<CharSet, AllocError>
+        ensures spans { IfOk result (λ s. s.spans.items ≡ self.now.spans.items) }
+    {
+        Ok(CharSet {
+            spans: self.spans.clone()?,
+            low: self.low,
+            mid: self.mid,
+            is_in_order: self.is_in_order,
+        })
+    }
+
+    /// Returns the set of the characters in this set or in another.
+    ///
+    /// # Errors
+    ///
+    /// Fails only if memory cannot be allocated.
+    pub fn united(&self, alloc: Global, other: &CharSet) -> Result<CharSet, AllocError>
+        ensures spans { IfOk result (λ s. s.spans.items ≡ self.now.spans.items ++ other.now.spans.items) }
+    {
+        let mut spans = Vec::with_capacity(
+            alloc,
+            self.spans.len().saturating_add(other.spans.len()),
+        )?;
+        spans.extend_from_slice(self.spans.as_slice())?;
+        spans.extend_from_slice(other.spans.as_slice())?;
+        Ok(CharSet::new(spans))
     }
 }
 
@@ -87,6 +119,17 @@ fn is_found(spans: &[(u32, u32)], c: u32) -> bool
     false
 }
 
+// Returns whether a code point is in one of the spans, of which is known whether they are in order.
+fn is_member(spans: &[(u32, u32)], is_in_order: bool, c: u32) -> bool
+    requires order { is_in_order ≡ true → IsInOrder spans.now }
+    ensures has { result ≡ in_set spans.now c }
+{
+    if is_in_order {
+        return is_found(spans, c);
+    }
+    is_in(spans, c)
+}
+
 // Returns whether a code point is in one of the spans.
 fn is_in(spans: &[(u32, u32)], c: u32) -> bool
     ensures has { result ≡ in_set spans.now c }
@@ -108,13 +151,14 @@ fn with(word: u64, bit: u32) -> u64
 }
 
 // Returns a bit for each of the 64 code points from a first one on.
-fn bits_from(spans: &[(u32, u32)], first: u32) -> u64
+fn bits_from(spans: &[(u32, u32)], is_in_order: bool, first: u32) -> u64
+    requires order { is_in_order ≡ true → IsInOrder spans.now }
     requires small { first < 128 }
     ensures bits { (c : ℕ) → c < 64 → (bit_at result c == 1) ≡ in_set spans.now (first + c) }
 {
     let mut word = 0u64;
     for bit in 0..64u32 {
-        if is_in(spans, first + bit) {
+        if is_member(spans, is_in_order, first + bit) {
             word = with(word, bit);
         }
     }
