@@ -3,12 +3,12 @@ use Rattle.std.proofs.Common.{◌≡◌, ◌≤◌, ◌||◌, ◌&&◌, ◌+◌,
 use Rattle.std.specs.Prelude.{slice_index, option_map}
 use Rattle.pattern_trees.specs.Sets.{in_set}
 use Rattle.pattern_trees.specs.Patterns.{Pattern, Empty, One, Then, Either, Look, Repeat, Leads, Matches, Iterates, IfWanted, IsFound}
-use Rattle.pattern_trees.specs.Nodes.{Node, Around, Times, node_of}
+use Rattle.pattern_trees.specs.Nodes.{Node, Around, node_of}
 use Rattle.pattern_trees.specs.Trees.{pattern_of}
 use Rattle.pattern_trees.specs.declared.tree.Look as looks
 use Rattle.pattern_trees.specs.declared.tree.Tree.{Tree}
 use Rattle.pattern_trees.specs.declared.tree.Turns.{Turns}
-use Rattle.pattern_sets.specs.Alike.{AreAlike}
+use Rattle.pattern_sets.specs.Alike.{AreAlike, repeat_of}
 use Rattle.pattern_sets.proofs.Leading.{or_left, or_right, or_true}
 
 pub alike_refl : (p : Pattern) → AreAlike p p
@@ -117,18 +117,15 @@ look_before look value read body item rest result same inner made whole =
     alike_trans (Then (Look look.ahead look.wanted p) rest) (Then (Look look.ahead look.wanted a) rest) result
     (alike_then (Look look.ahead look.wanted p) rest (Look look.ahead look.wanted a) rest (alike_look look.ahead look.wanted p a alike) (alike_refl rest)) last
 
-abbrev pub repeat_of : Turns → Pattern → Pattern
-repeat_of t p = Repeat t.min (option_map (λ most. most - t.min) t.max) p
-
-pub times_before : (t : Turns) (value read body item : Tree) (rest result : Pattern) → read ≡ value → AreAlike (pattern_of (node_of read)) (pattern_of (node_of body)) → node_of item ≡ Times t (node_of body) →
+pub times_before : (t : Turns) (value read body item : Tree) (rest result : Pattern) → read ≡ value → AreAlike (pattern_of (node_of read)) (pattern_of (node_of body)) → AreAlike (repeat_of t (pattern_of (node_of body))) (pattern_of (node_of item)) →
     AreAlike (Then (pattern_of (node_of item)) rest) result → AreAlike (Then (repeat_of t (pattern_of (node_of value))) rest) result
 times_before t value read body item rest result same inner made whole =
     let p = pattern_of (node_of value) in
     let a = pattern_of (node_of body) in
     let alike : AreAlike p a = subst (λ (t : Tree). AreAlike (pattern_of (node_of t)) a) same inner in
-    let last : AreAlike (Then (repeat_of t a) rest) result = subst (λ (n : Node). AreAlike (Then (pattern_of n) rest) result) made whole in
-    alike_trans (Then (repeat_of t p) rest) (Then (repeat_of t a) rest) result
-    (alike_then (repeat_of t p) rest (repeat_of t a) rest (alike_repeat t.min (option_map (λ most. most - t.min) t.max) p a alike) (alike_refl rest)) last
+    let b = pattern_of (node_of item) in
+    let once : AreAlike (repeat_of t p) b = alike_trans (repeat_of t p) (repeat_of t a) b (alike_repeat t.min (option_map (λ most. most - t.min) t.max) p a alike) made in
+    alike_trans (Then (repeat_of t p) rest) (Then b rest) result (alike_then (repeat_of t p) rest b rest once (alike_refl rest)) whole
 
 -- ---- where the whole pattern matches
 

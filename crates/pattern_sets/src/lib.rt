@@ -2,6 +2,7 @@
 #![tactic(auto)]
 
 mod at_position;
+mod folding;
 mod matching;
 mod preparing;
 mod row_steps;

@@ -1,12 +1,13 @@
 //! Rewrites a pattern into one that matches alike, and is walked faster.
-ghost use Rattle.std.specs.Prelude.{◌≡◌, ◌++◌, IfOk, IfSome, true};
-ghost use Rattle.pattern_trees.specs.Nodes.{Around, Nothing, Times, node_of};
+ghost use Rattle.std.specs.Prelude.{◌≡◌, IfOk, IfSome, true};
+ghost use Rattle.pattern_trees.specs.Nodes.{Around, Nothing, node_of};
 ghost use Rattle.pattern_trees.specs.Patterns.{Either, Then};
 ghost use Rattle.pattern_trees.specs.Trees.{pattern_of};
-ghost use Rattle.pattern_sets.specs.Alike.{AreAlike};
+ghost use Rattle.pattern_sets.specs.Alike.{AreAlike, repeat_of};
 
+use crate::folding::folded;
 use crate::row_steps::OutOfMemory;
-use pattern_trees::{CharSet, Look, Tree, Turns};
+use pattern_trees::{Look, Tree, Turns};
 use std::alloc::Global;
 
 // How many items a row has at most. A longer one would make a deep tree.
@@ -17,8 +18,9 @@ const MOST_SPANS: usize = 16;
 
 /// Returns a pattern that matches alike, and is walked faster.
 ///
-/// It has no groups, two sets of characters beside each other are one set, and a sequence is a row:
-/// its first item, and then what follows.
+/// It has no groups, two sets of characters beside each other are one set, a repetition of a
+/// repetition is one repetition where no number of turns is left out, and a sequence is a row: its
+/// first item, and then what follows.
 ///
 /// # Errors
 ///
@@ -58,7 +60,7 @@ fn before(alloc: Global, tree: &Tree, rest: Tree) -> Result<Tree, OutOfMemory>
     match tree {
         Tree::Nothing => Ok(rest),
         Tree::OneOf(set) => {
-            let set = copy(set)?;
+            let set = set.copy()?;
             Ok(pair(alloc, Tree::OneOf(set), rest)?)
         }
         Tree::At(edge) => Ok(pair(alloc, Tree::At(*edge), rest)?),
@@ -96,24 +98,6 @@ fn count_items(tree: &Tree) -> usize {
     }
 }
 
-// Returns a copy of a set.
-fn copy(set: &CharSet) -> Result<CharSet, OutOfMemory>
-    ensures spans { IfOk result (λ s. s.spans.items ≡ set.now.spans.items) }
-{
-    let spans = set.spans.clone()?;
-    Ok(CharSet::new(spans))
-}
-
-// Returns the set of the characters in one set or in another.
-fn united(alloc: Global, one: &CharSet, other: &CharSet) -> Result<CharSet, OutOfMemory>
-    ensures spans { IfOk result (λ s. s.spans.items ≡ one.now.spans.items ++ other.now.spans.items) }
-{
-    let mut spans = Vec::new(alloc);
-    spans.extend_from_slice(one.spans.as_slice())?;
-    spans.extend_from_slice(other.spans.as_slice())?;
-    Ok(CharSet::new(spans))
-}
-
 // Returns a lookaround.
 fn around(alloc: Global, look: Look, body: Tree) -> Result<Tree, OutOfMemory>
     ensures around { IfOk result (λ t. node_of t ≡ Around look (node_of body)) }
@@ -122,12 +106,33 @@ fn around(alloc: Global, look: Look, body: Tree) -> Result<Tree, OutOfMemory>
     Ok(Tree::Around(look, body))
 }
 
-// Returns a repetition.
+// Returns a repetition of a pattern that may be a repetition itself.
 fn times(alloc: Global, turns: Turns, body: Tree) -> Result<Tree, OutOfMemory>
-    ensures times { IfOk result (λ t. node_of t ≡ Times turns (node_of body)) }
+    ensures alike { IfOk result (λ t. AreAlike (repeat_of turns (pattern_of (node_of body))) (pattern_of (node_of t))) }
 {
-    let body = Box::new(alloc, body)?;
-    Ok(Tree::Times(turns, body))
+    match body {
+        Tree::Times(inner, body) => Ok(times_again(alloc, turns, inner, body)?),
+        body => {
+            let body = Box::new(alloc, body)?;
+            Ok(Tree::Times(turns, body))
+        }
+    }
+}
+
+// Returns a repetition of a repetition.
+fn times_again(
+    alloc: Global,
+    outer: Turns,
+    inner: Turns,
+    body: Box<Tree>,
+) -> Result<Tree, OutOfMemory>
+    ensures alike { IfOk result (λ t. AreAlike (repeat_of outer (repeat_of inner (pattern_of (node_of body.value)))) (pattern_of (node_of t))) }
+{
+    if let Some(turns) = folded(outer, inner) {
+        return Ok(Tree::Times(turns, body));
+    }
+    let body = Box::new(alloc, Tree::Times(inner, body))?;
+    Ok(Tree::Times(outer, body))
 }
 
 // Returns whether a pattern is the empty one.
@@ -165,7 +170,7 @@ fn one_set(alloc: Global, a: &Tree, b: &Tree) -> Result<Option<Tree>, OutOfMemor
     if x.spans.len().saturating_add(y.spans.len()) > MOST_SPANS {
         return Ok(None);
     }
-    let set = united(alloc, x, y)?;
+    let set = x.united(alloc, y)?;
     Ok(Some(Tree::OneOf(set)))
 }
 

@@ -14,5 +14,5 @@ pub before-returns-in_ok-pair-in-Times : goal.before-returns-in_ok-pair-in-Times
 before-returns-in_ok-pair-in-Times t c =
     record {
       alike = rw c.in-Times.is (times_before c.in-Times.turns c.in-Times.body.value c.deref-in-Times.result.now c.in_ok-body-in-Times.body c.in_ok-item-in-Times.item (pattern_of (node_of c.args.rest)) (pattern_of (node_of c.in_ok-pair-in-Times.field-0))
-          c.deref-in-Times.ensures c.in_ok-body-in-Times.ensures.alike c.in_ok-item-in-Times.ensures.times c.in_ok-pair-in-Times.ensures.alike);
+          c.deref-in-Times.ensures c.in_ok-body-in-Times.ensures.alike c.in_ok-item-in-Times.ensures.alike c.in_ok-pair-in-Times.ensures.alike);
     }
