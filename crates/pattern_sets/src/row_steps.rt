@@ -5,7 +5,7 @@ ghost use Rattle.pattern_rows.specs.Rows.{has, width};
 ghost use Rattle.pattern_sets.specs.Images.{IsTaken, Leaves, RunsFor, Steps, Walks, leads};
 
 use crate::at_position::{is_at, takes};
-use crate::runs::{after_run, run_end};
+use crate::runs::{after_run, run_end, run_start};
 use crate::turns::most_turns;
 use pattern_rows::Row;
 use pattern_trees::{CharSet, Edge};
@@ -81,7 +81,7 @@ fn runs_on(
     let mut past = 0;
     let mut i = 0;
     'steps: while let Some(m) = from.next(i) {
-        let start = m.max(end);
+        let start = run_start(m, end);
         let stop = (m + most).min(text.len());
         end = run_end(set, text, start, stop);
         let first = (m + least).max(past);

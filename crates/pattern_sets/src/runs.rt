@@ -1,8 +1,18 @@
 //! Runs of characters of one set.
-ghost use Rattle.std.specs.Prelude.{◌≡◌, ◌<◌, ◌≤◌, ◌+◌, ◌^◌, ℕ, length};
+ghost use Rattle.std.specs.Prelude.{◌≡◌, ◌<◌, ◌≤◌, ◌+◌, ◌^◌, ℕ, length, max};
 ghost use Rattle.pattern_sets.specs.Images.{IsTaken};
 
 use pattern_trees::CharSet;
+
+/// Returns where a run that begins at a position is looked at first.
+///
+/// What lies before the end of an earlier run was looked at.
+#[inline(always)]
+pub fn run_start(position: usize, end: usize) -> usize
+    ensures start { result ≡ max position end }
+{
+    position.max(end)
+}
 
 /// Returns where a run of characters of a set ends, which begins at a position.
 ///

@@ -5,7 +5,7 @@ ghost use Rattle.pattern_trees.specs.Sets.{in_set};
 ghost use Rattle.pattern_sets.specs.Images.{IsImage, IsTaken, Joined, Reaches, RunsFor, Steps, in_word, leads};
 
 use crate::at_position::{is_at, takes};
-use crate::runs::{after_run, run_end};
+use crate::runs::{after_run, run_end, run_start};
 use crate::turns::most_turns;
 use pattern_rows::{both, lowest, ones, with, with_span, without};
 use pattern_trees::{CharSet, Edge};
@@ -159,7 +159,7 @@ fn runs_on(set: &CharSet, text: &[char], least: usize, most: usize, from: u64) -
     let mut end = 0;
     let mut i = 0;
     'steps: while let Some(m) = next(from, i) {
-        let start = m.max(end);
+        let start = run_start(m, end);
         let stop = (m + most).min(text.len());
         end = run_end(set, text, start, stop);
         to = with_span(to, m + least, end);

@@ -29,8 +29,8 @@ put_span-requires c =
     let wide = c.steps.invariant.width_to in
     let sized = c.requires.sized in
     let short = c.requires.short in
-    let goes : GoesOn set text c.max-start.result c.min-stop.result c.run_end-end.result = record { on = ended.on; taken = ended.taken; blocked = ended.blocked } in
-    let le = run_within set text c.args.most c.in-Some.m c.steps.end c.max-start.result c.min-stop.result c.run_end-end.result (64 * width c.args.from.now + 63) c.max-start.ensures c.min-stop.ensures goes (omega arith) old (omega arith) in
+    let goes : GoesOn set text c.run_start-start.result c.min-stop.result c.run_end-end.result = record { on = ended.on; taken = ended.taken; blocked = ended.blocked } in
+    let le = run_within set text c.args.most c.in-Some.m c.steps.end c.run_start-start.result c.min-stop.result c.run_end-end.result (64 * width c.args.from.now + 63) c.run_start-start.ensures.start c.min-stop.ensures goes (omega arith) old (omega arith) in
     record { within = omega arith; small = omega arith }
 
 pub overflow_add-past : goal.overflow_add-past
@@ -43,8 +43,8 @@ overflow_add-past c =
     let old = c.steps.invariant.inside in
     let sized = c.requires.sized in
     let short = c.requires.short in
-    let goes : GoesOn set text c.max-start.result c.min-stop.result c.run_end-end.result = record { on = ended.on; taken = ended.taken; blocked = ended.blocked } in
-    let le = run_within set text c.args.most c.in-Some.m c.steps.end c.max-start.result c.min-stop.result c.run_end-end.result (64 * width c.args.from.now + 63) c.max-start.ensures c.min-stop.ensures goes (omega arith) old (omega arith) in
+    let goes : GoesOn set text c.run_start-start.result c.min-stop.result c.run_end-end.result = record { on = ended.on; taken = ended.taken; blocked = ended.blocked } in
+    let le = run_within set text c.args.most c.in-Some.m c.steps.end c.run_start-start.result c.min-stop.result c.run_end-end.result (64 * width c.args.from.now + 63) c.run_start-start.ensures.start c.min-stop.ensures goes (omega arith) old (omega arith) in
     omega arith
 
 pub after_run-i-requires : goal.after_run-i-requires
@@ -58,8 +58,8 @@ after_run-i-requires c =
     let sized = c.requires.sized in
     let short = c.requires.short in
     let few = c.requires.few in
-    let goes : GoesOn set text c.max-start.result c.min-stop.result c.run_end-end.result = record { on = ended.on; taken = ended.taken; blocked = ended.blocked } in
-    let le = run_within set text c.args.most c.in-Some.m c.steps.end c.max-start.result c.min-stop.result c.run_end-end.result (64 * width c.args.from.now + 63) c.max-start.ensures c.min-stop.ensures goes (omega arith) old (omega arith) in
+    let goes : GoesOn set text c.run_start-start.result c.min-stop.result c.run_end-end.result = record { on = ended.on; taken = ended.taken; blocked = ended.blocked } in
+    let le = run_within set text c.args.most c.in-Some.m c.steps.end c.run_start-start.result c.min-stop.result c.run_end-end.result (64 * width c.args.from.now + 63) c.run_start-start.ensures.start c.min-stop.ensures goes (omega arith) old (omega arith) in
     record { small = omega arith }
 
 pub steps-preserved : goal.steps-preserved
@@ -84,8 +84,8 @@ steps-preserved c =
     let sized = c.requires.sized in
     let found : IsNext i m from = record { from_on = next.0; set = next.1; first = next.2 } in
     let ended = c.run_end-end.ensures in
-    let goes : GoesOn set text c.max-start.result c.min-stop.result end = record { on = ended.on; taken = ended.taken; blocked = ended.blocked } in
-    let run = run_from set text most i m c.steps.end c.max-start.result c.min-stop.result end c.steps.invariant.scan next.0 c.max-start.ensures c.min-stop.ensures goes in
+    let goes : GoesOn set text c.run_start-start.result c.min-stop.result end = record { on = ended.on; taken = ended.taken; blocked = ended.blocked } in
+    let run = run_from set text most i m c.steps.end c.run_start-start.result c.min-stop.result end c.steps.invariant.scan next.0 c.run_start-start.ensures.start c.min-stop.ensures goes in
     let after = c.after_run-i.ensures in
     let put : (k : ℕ) → new k ≡ (old k || (nat_le (m + least) k && nat_le k end)) =
     λ k. put_again (m + least) c.steps.past c.max-first.result end k (old k) (new k) c.max-first.ensures (λ a b. c.steps.invariant.reached k (omega arith) b) (c.put_span.ensures.put k) in
@@ -93,7 +93,7 @@ steps-preserved c =
       width_to = same ∙ wide;
       below = below_run set text least most i m end then from old new c.steps.invariant.below found run after.on after.within put;
       scan = scan_on set text most m end then run after.on;
-      inside = run_within set text most m c.steps.end c.max-start.result c.min-stop.result end (64 * width c.args.from.now + 63) c.max-start.ensures c.min-stop.ensures goes (omega arith) far (omega arith);
+      inside = run_within set text most m c.steps.end c.run_start-start.result c.min-stop.result end (64 * width c.args.from.now + 63) c.run_start-start.ensures.start c.min-stop.ensures goes (omega arith) far (omega arith);
       done = omega arith;
       reached = λ k a b. reached_on m least end then k old new put after.on a b;
     }

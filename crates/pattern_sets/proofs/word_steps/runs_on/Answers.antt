@@ -24,8 +24,8 @@ with_span-to-requires c =
     let within = c.in-Some.ensures.next.3 in
     let old = c.steps.invariant.short in
     let fit = c.requires.short in
-    let goes : GoesOn set text c.max-start.result c.min-stop.result c.run_end-end.result = record { on = ended.on; taken = ended.taken; blocked = ended.blocked } in
-    let le = run_within set text c.args.most m c.steps.end c.max-start.result c.min-stop.result c.run_end-end.result 63 c.max-start.ensures c.min-stop.ensures goes (omega arith) (omega arith) (omega arith) in
+    let goes : GoesOn set text c.run_start-start.result c.min-stop.result c.run_end-end.result = record { on = ended.on; taken = ended.taken; blocked = ended.blocked } in
+    let le = run_within set text c.args.most m c.steps.end c.run_start-start.result c.min-stop.result c.run_end-end.result 63 c.run_start-start.ensures.start c.min-stop.ensures goes (omega arith) (omega arith) (omega arith) in
     record { within = omega arith }
 
 pub after_run-i-requires : goal.after_run-i-requires
@@ -37,8 +37,8 @@ after_run-i-requires c =
     let within = c.in-Some.ensures.next.3 in
     let old = c.steps.invariant.short in
     let fit = c.requires.short in
-    let goes : GoesOn set text c.max-start.result c.min-stop.result c.run_end-end.result = record { on = ended.on; taken = ended.taken; blocked = ended.blocked } in
-    let le = run_within set text c.args.most m c.steps.end c.max-start.result c.min-stop.result c.run_end-end.result 63 c.max-start.ensures c.min-stop.ensures goes (omega arith) (omega arith) (omega arith) in
+    let goes : GoesOn set text c.run_start-start.result c.min-stop.result c.run_end-end.result = record { on = ended.on; taken = ended.taken; blocked = ended.blocked } in
+    let le = run_within set text c.args.most m c.steps.end c.run_start-start.result c.min-stop.result c.run_end-end.result 63 c.run_start-start.ensures.start c.min-stop.ensures goes (omega arith) (omega arith) (omega arith) in
     let few = c.requires.few in
     record { small = omega arith }
 
@@ -51,13 +51,13 @@ steps-preserved c =
     let next = c.in-Some.ensures.next in
     let found : IsNext i m (in_word c.args.from) = record { from_on = next.0; set = next.1; first = next.2 } in
     let ended = c.run_end-end.ensures in
-    let goes : GoesOn set text c.max-start.result c.min-stop.result c.run_end-end.result = record { on = ended.on; taken = ended.taken; blocked = ended.blocked } in
-    let run = run_from set text c.args.most i m c.steps.end c.max-start.result c.min-stop.result c.run_end-end.result c.steps.invariant.scan next.0 c.max-start.ensures c.min-stop.ensures goes in
+    let goes : GoesOn set text c.run_start-start.result c.min-stop.result c.run_end-end.result = record { on = ended.on; taken = ended.taken; blocked = ended.blocked } in
+    let run = run_from set text c.args.most i m c.steps.end c.run_start-start.result c.min-stop.result c.run_end-end.result c.steps.invariant.scan next.0 c.run_start-start.ensures.start c.min-stop.ensures goes in
     let after = c.after_run-i.ensures in
     let within = next.3 in
     let old = c.steps.invariant.short in
     let fit = c.requires.short in
-    let le = run_within set text c.args.most m c.steps.end c.max-start.result c.min-stop.result c.run_end-end.result 63 c.max-start.ensures c.min-stop.ensures goes (omega arith) (omega arith) (omega arith) in
+    let le = run_within set text c.args.most m c.steps.end c.run_start-start.result c.min-stop.result c.run_end-end.result 63 c.run_start-start.ensures.start c.min-stop.ensures goes (omega arith) (omega arith) (omega arith) in
     record {
       below = below_run set text c.args.least c.args.most i m c.run_end-end.result c.after_run-i.result (in_word c.args.from) (in_word c.steps.to) (in_word c.with_span-to.result) c.steps.invariant.below found run after.on after.within c.with_span-to.ensures.bits;
       scan = scan_on set text c.args.most m c.run_end-end.result c.after_run-i.result run after.on;
