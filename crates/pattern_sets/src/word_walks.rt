@@ -101,7 +101,7 @@ fn word_on(tree: &Tree, text: &[char], from: u64) -> u64
 
 // Returns where the first of two patterns leads.
 //
-// Many are one character, an assertion or a repetition, which take no further call.
+// Many are one character, an assertion, a repetition or a lookaround, which take no further call.
 #[inline(always)]
 #[cycle(word_walk)]
 fn word_first(tree: &Tree, text: &[char], forward: bool, from: u64) -> u64
@@ -120,6 +120,7 @@ fn word_first(tree: &Tree, text: &[char], forward: bool, from: u64) -> u64
             from,
         ),
         Tree::Choice(a, b) => word_choice(a, b, text, forward, from),
+        Tree::Around(look, inner) => word_look(look.ahead, look.wanted, inner, text, forward, from),
         _ => word_walk(tree, text, forward, from),
     }
 }
@@ -130,9 +131,25 @@ fn word_choice(a: &Tree, b: &Tree, text: &[char], forward: bool, from: u64) -> u
     requires short { length text.now < 64 }
     ensures walks { IsImage (leads forward (Either (pattern_of (node_of a.now)) (pattern_of (node_of b.now))) text.now) (in_word from) (in_word result) }
 {
-    let left = word_walk(a, text, forward, from);
-    let right = word_walk(b, text, forward, from);
+    let left = word_branch(a, text, forward, from);
+    let right = word_branch(b, text, forward, from);
     either(left, right)
+}
+
+// Returns where one of several patterns leads.
+//
+// Many are a row or a choice, which takes no further call.
+#[inline(always)]
+#[cycle(word_walk)]
+fn word_branch(tree: &Tree, text: &[char], forward: bool, from: u64) -> u64
+    requires short { length text.now < 64 }
+    ensures walks { IsImage (leads forward (pattern_of (node_of tree.now)) text.now) (in_word from) (in_word result) }
+{
+    match tree {
+        Tree::Pair(a, b) if forward => word_row(a, b, text, from),
+        Tree::Choice(a, b) => word_choice(a, b, text, forward, from),
+        _ => word_walk(tree, text, forward, from),
+    }
 }
 
 // Returns whether a word has at most one position.

@@ -35,7 +35,10 @@ abbrev pub decreases-word_first : goal.decreases-word_first
 decreases-word_first l = 8 * size-Tree l.tree.now + 2
 
 abbrev pub decreases-word_choice : goal.decreases-word_choice
-decreases-word_choice l = 8 * max (size-Tree l.a.now) (size-Tree l.b.now) + 2
+decreases-word_choice l = 8 * max (size-Tree l.a.now) (size-Tree l.b.now) + 3
+
+abbrev pub decreases-word_branch : goal.decreases-word_branch
+decreases-word_branch l = 8 * size-Tree l.tree.now + 2
 
 abbrev pub decreases-word_look : goal.decreases-word_look
 decreases-word_look l = 8 * size-Tree l.body.now + 6
