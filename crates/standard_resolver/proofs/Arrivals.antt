@@ -4,7 +4,8 @@ use Rattle.serde_json.specs.Data.{Data}
 use Rattle.theory_definitions.specs.Instance.{Place, Step, Text, a_value, after_step}
 use Rattle.theory_definitions.specs.Drafts.{Draft}
 use Rattle.theory_definitions.specs.Resolving.{Found}
-use Rattle.standard_subschemas.specs.SubschemaRules.{data_of, detected}
+use Rattle.standard_subschemas.specs.SubschemaRules.{data_of}
+use Rattle.standard_resolver.specs.Dialects.{detected}
 use Rattle.standard_resolver.specs.DocumentResources.{Table}
 use Rattle.standard_resolver.specs.DocumentStates.{Point, entered_inner}
 use Rattle.standard_resolver.specs.DocumentLookups.{arrived, is_subschema, nothing_there}
@@ -20,17 +21,17 @@ module _ (table : Table) (reference : Text) (document : ℕ) (before : Point) (d
 
   module _ (below : Data) (stands : data_of (after_step step (a_value reached)) ≡ Some below) where
     -- a value that is not a subschema
-    pub arrives_past : is_subschema table.rule draft (since ++ step ∷ []) schema ≡ false
+    pub arrives_past : is_subschema table.reading.rule draft (since ++ step ∷ []) schema ≡ false
         → arrives (step ∷ path) ≡ arrived table reference document before draft schema (since ++ step ∷ []) below (gone ++ step ∷ []) s path
     arrives_past e = rw (stands, e, arrived) refl
 
     -- a subschema, which is entered or refused
-    pub arrives_inside : (inside : Point) → is_subschema table.rule draft (since ++ step ∷ []) schema ≡ true
-        → entered_inner table before s (detected draft below) (record { document = document; path = gone ++ step ∷ [] }) below ≡ Ok inside
-        → arrives (step ∷ path) ≡ arrived table reference document before (detected draft below) below [] below (gone ++ step ∷ []) inside path
+    pub arrives_inside : (inside : Point) → is_subschema table.reading.rule draft (since ++ step ∷ []) schema ≡ true
+        → entered_inner table before s (detected table.reading draft below) (record { document = document; path = gone ++ step ∷ [] }) below ≡ Ok inside
+        → arrives (step ∷ path) ≡ arrived table reference document before (detected table.reading draft below) below [] below (gone ++ step ∷ []) inside path
     arrives_inside inside e f = rw (stands, e, f, arrived) refl
 
-    pub arrives_refused : (text : Text) → is_subschema table.rule draft (since ++ step ∷ []) schema ≡ true
-        → entered_inner table before s (detected draft below) (record { document = document; path = gone ++ step ∷ [] }) below ≡ Err text
+    pub arrives_refused : (text : Text) → is_subschema table.reading.rule draft (since ++ step ∷ []) schema ≡ true
+        → entered_inner table before s (detected table.reading draft below) (record { document = document; path = gone ++ step ∷ [] }) below ≡ Err text
         → arrives (step ∷ path) ≡ Err text
     arrives_refused text e f = rw (stands, e, f, arrived) refl

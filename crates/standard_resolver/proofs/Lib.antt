@@ -2,9 +2,14 @@ pub mod OnWay
 pub mod Insides
 pub mod DocumentRows
 pub mod StandardRows
+pub mod DialectRows
 pub mod Arrivals
 pub mod ResourceLists
+pub mod MetaLists
+pub mod NamedDrafts
+pub mod MetaNumbers
 pub mod Walks
 pub mod DocumentLists
 pub mod Starts
 pub mod KeptDrafts
+pub mod DeclaredDrafts

@@ -5,11 +5,10 @@ use Rattle.std.specs.Prelude.{IsSome, Some, flat_map, is_some, slice_get}
 use Rattle.std.proofs.lemmas.List.{flat_map_more, get_or-map, length-map, length-take-le, map-append, map_more, take-map, take_all}
 use Rattle.std.proofs.lemmas.Slice.Eq.{bytes_eq-Decides}
 use Rattle.theory_definitions.specs.Instance.{Text}
-use Rattle.theory_definitions.specs.Drafts.{Draft}
-use Rattle.standard_subschemas.specs.declared.rules.Rule.{Rule}
 use Rattle.standard_subschemas.specs.SubschemaRules.{without_fragment}
 use Rattle.standard_subschemas.specs.DocumentKeys.{number_in}
 use Rattle.standard_resolver.specs.ResolverAnswers.{entrance, entrance_at}
+use Rattle.standard_resolver.specs.Dialects.{Reading}
 use Rattle.standard_resolver.specs.ResolverDocuments.{Document}
 use Rattle.standard_resolver.specs.DocumentResources.{Resource, document_resource, document_resources, embedded, embedded_resources, number_of}
 use Rattle.standard_resolver.specs.DocumentResources.{normal_resource, resource_key, resources_of, whole_document, with_resource, with_resources}
@@ -33,24 +32,24 @@ adds_both xs ys a b c first second = λ found.
 
 -- ---- the resources in documents, with one document more
 
-pub documents-append : (rule : Rule) (draft : Draft) (n : ℕ) (ds : List Document) (d : Document)
-    → document_resources rule draft n (ds ++ d ∷ []) ≡ document_resources rule draft n ds ++ whole_document rule draft (n + length ds) d
-documents-append rule draft n [] d = let e : n ≡ n + 0 = omega arith in append-nil (whole_document rule draft n d)
-    ∙ ap (λ m. whole_document rule draft m d) e
-documents-append rule draft n (x ∷ ds) d = let e : n + 1 + length ds ≡ n + suc (length ds) = omega arith in
-    ap (λ l. whole_document rule draft n x ++ l) (documents-append rule draft (n + 1) ds d
-    ∙ ap (λ m. document_resources rule draft (n + 1) ds ++ whole_document rule draft m d) e)
-    ∙ sym (append_assoc (whole_document rule draft n x) (document_resources rule draft (n + 1) ds)
-    (whole_document rule draft (n + suc (length ds)) d))
+pub documents-append : (reading : Reading) (n : ℕ) (ds : List Document) (d : Document)
+    → document_resources reading n (ds ++ d ∷ []) ≡ document_resources reading n ds ++ whole_document reading (n + length ds) d
+documents-append reading n [] d = let e : n ≡ n + 0 = omega arith in append-nil (whole_document reading n d)
+    ∙ ap (λ m. whole_document reading m d) e
+documents-append reading n (x ∷ ds) d = let e : n + 1 + length ds ≡ n + suc (length ds) = omega arith in
+    ap (λ l. whole_document reading n x ++ l) (documents-append reading (n + 1) ds d
+    ∙ ap (λ m. document_resources reading (n + 1) ds ++ whole_document reading m d) e)
+    ∙ sym (append_assoc (whole_document reading n x) (document_resources reading (n + 1) ds)
+    (whole_document reading (n + suc (length ds)) d))
 
-pub embedded-append : (rule : Rule) (draft : Draft) (n : ℕ) (ds : List Document) (d : Document)
-    → embedded_resources rule draft n (ds ++ d ∷ []) ≡ embedded_resources rule draft n ds ++ embedded rule draft (n + length ds) d
-embedded-append rule draft n [] d = let e : n ≡ n + 0 = omega arith in append-nil (embedded rule draft n d)
-    ∙ ap (λ m. embedded rule draft m d) e
-embedded-append rule draft n (x ∷ ds) d = let e : n + 1 + length ds ≡ n + suc (length ds) = omega arith in
-    ap (λ l. embedded rule draft n x ++ l) (embedded-append rule draft (n + 1) ds d
-    ∙ ap (λ m. embedded_resources rule draft (n + 1) ds ++ embedded rule draft m d) e)
-    ∙ sym (append_assoc (embedded rule draft n x) (embedded_resources rule draft (n + 1) ds) (embedded rule draft (n + suc (length ds)) d))
+pub embedded-append : (reading : Reading) (n : ℕ) (ds : List Document) (d : Document)
+    → embedded_resources reading n (ds ++ d ∷ []) ≡ embedded_resources reading n ds ++ embedded reading (n + length ds) d
+embedded-append reading n [] d = let e : n ≡ n + 0 = omega arith in append-nil (embedded reading n d)
+    ∙ ap (λ m. embedded reading m d) e
+embedded-append reading n (x ∷ ds) d = let e : n + 1 + length ds ≡ n + suc (length ds) = omega arith in
+    ap (λ l. embedded reading n x ++ l) (embedded-append reading (n + 1) ds d
+    ∙ ap (λ m. embedded_resources reading (n + 1) ds ++ embedded reading m d) e)
+    ∙ sym (append_assoc (embedded reading n x) (embedded_resources reading (n + 1) ds) (embedded reading (n + suc (length ds)) d))
 
 -- ---- a resource that is found keeps its number
 
@@ -86,17 +85,17 @@ is_entered : (listed : List Resource) (n : ℕ) (r : Resource) → slice_get lis
 is_entered listed n r e = rw (e, entrance_at) refl
 
 -- the first document is found under its URI
-pub root_found : (rule : Rule) (draft : Draft) (d : Document) (ds : List Document)
-    → IsSome (entrance (resources_of rule draft (d ∷ ds)) (without_fragment d.uri))
-root_found rule draft d ds =
-    subst (λ u. IsSome (entrance_at (resources_of rule draft (d ∷ ds)) (number_of u (resources_of rule draft (d ∷ ds)))))
+pub root_found : (reading : Reading) (d : Document) (ds : List Document)
+    → IsSome (entrance (resources_of reading (d ∷ ds)) (without_fragment d.uri))
+root_found reading d ds =
+    subst (λ u. IsSome (entrance_at (resources_of reading (d ∷ ds)) (number_of u (resources_of reading (d ∷ ds)))))
     (sym (no_fragment_left d.uri))
-    (subst (λ o. IsSome (entrance_at (resources_of rule draft (d ∷ ds)) o)) (sym h.number)
-    (is_entered (resources_of rule draft (d ∷ ds)) 0 (document_resource rule draft 0 d) h.there)) where
-      h : Stays (without_fragment d.uri) 0 (document_resource rule draft 0 d) (resources_of rule draft (d ∷ ds))
-      h = stays (embedded_resources rule draft 0 (d ∷ ds)) _ 0 (document_resource rule draft 0 d) _
-          (stays (normal_resource rule draft 0 d ++ document_resources rule draft 1 ds) _ 0 (document_resource rule draft 0 d) _
-          (first_stays (document_resource rule draft 0 d)))
+    (subst (λ o. IsSome (entrance_at (resources_of reading (d ∷ ds)) o)) (sym h.number)
+    (is_entered (resources_of reading (d ∷ ds)) 0 (document_resource reading 0 d) h.there)) where
+      h : Stays (without_fragment d.uri) 0 (document_resource reading 0 d) (resources_of reading (d ∷ ds))
+      h = stays (embedded_resources reading 0 (d ∷ ds)) _ 0 (document_resource reading 0 d) _
+          (stays (normal_resource reading 0 d ++ document_resources reading 1 ds) _ 0 (document_resource reading 0 d) _
+          (first_stays (document_resource reading 0 d)))
 
 -- ---- turns of the code
 
@@ -121,7 +120,7 @@ taken_length f g xs i less = length-take-le i (map g (map f xs)) (omega (arith, 
 all_taken : {A B C : Type 0} (f : A → B) (g : B → C) (xs : List A) (i : ℕ) → length xs ≤ i → take i (map g (map f xs)) ≡ map g (map f xs)
 all_taken f g xs i l = take_all i (map g (map f xs)) (omega (arith, length-map xs f, length-map (map f xs) g))
 
-module _ {A B : Type 0} (rule : Rule) (draft : Draft) (first : Document) (f : A → B) (g : B → Document) (xs : List A) (i : ℕ)
+module _ {A B : Type 0} (reading : Reading) (first : Document) (f : A → B) (g : B → Document) (xs : List A) (i : ℕ)
     (old new : Gathered) where
   -- the first documents after the root
   abbrev some_of : ℕ → List Document
@@ -134,28 +133,28 @@ module _ {A B : Type 0} (rule : Rule) (draft : Draft) (first : Document) (f : A 
     number : i + 1 ≡ 0 + length (some_of i)
     number = omega (arith, taken_length f g xs i less)
 
-    pub next_document : Adds (document_resources rule draft 0 (some_of i)) old new
-        → Adds (whole_document rule draft (i + 1) (g (f x))) new later
-        → Adds (document_resources rule draft 0 (some_of (i + 1))) old later
+    pub next_document : Adds (document_resources reading 0 (some_of i)) old new
+        → Adds (whole_document reading (i + 1) (g (f x))) new later
+        → Adds (document_resources reading 0 (some_of (i + 1))) old later
     next_document so_far added = subst (λ rs. Adds rs old later)
-        (ap (λ m. document_resources rule draft 0 (some_of i) ++ whole_document rule draft m (g (f x))) number
-        ∙ sym (documents-append rule draft 0 (some_of i) (g (f x))) ∙ ap (document_resources rule draft 0) (sym taken))
-        (adds_both (document_resources rule draft 0 (some_of i)) (whole_document rule draft (i + 1) (g (f x))) old new later so_far added)
+        (ap (λ m. document_resources reading 0 (some_of i) ++ whole_document reading m (g (f x))) number
+        ∙ sym (documents-append reading 0 (some_of i) (g (f x))) ∙ ap (document_resources reading 0) (sym taken))
+        (adds_both (document_resources reading 0 (some_of i)) (whole_document reading (i + 1) (g (f x))) old new later so_far added)
 
-    pub next_embedded : Adds (embedded_resources rule draft 0 (some_of i)) old new → Adds (embedded rule draft (i + 1) (g (f x))) new later
-        → Adds (embedded_resources rule draft 0 (some_of (i + 1))) old later
+    pub next_embedded : Adds (embedded_resources reading 0 (some_of i)) old new → Adds (embedded reading (i + 1) (g (f x))) new later
+        → Adds (embedded_resources reading 0 (some_of (i + 1))) old later
     next_embedded so_far added = subst (λ rs. Adds rs old later)
-        (ap (λ m. embedded_resources rule draft 0 (some_of i) ++ embedded rule draft m (g (f x))) number
-        ∙ sym (embedded-append rule draft 0 (some_of i) (g (f x))) ∙ ap (embedded_resources rule draft 0) (sym taken))
-        (adds_both (embedded_resources rule draft 0 (some_of i)) (embedded rule draft (i + 1) (g (f x))) old new later so_far added)
+        (ap (λ m. embedded_resources reading 0 (some_of i) ++ embedded reading m (g (f x))) number
+        ∙ sym (embedded-append reading 0 (some_of i) (g (f x))) ∙ ap (embedded_resources reading 0) (sym taken))
+        (adds_both (embedded_resources reading 0 (some_of i)) (embedded reading (i + 1) (g (f x))) old new later so_far added)
 
-  pub all_documents : length xs ≤ i → Adds (document_resources rule draft 0 (some_of i)) old new
-      → Adds (document_resources rule draft 0 (first ∷ map g (map f xs))) old new
-  all_documents l = subst (λ ds. Adds (document_resources rule draft 0 (first ∷ ds)) old new) (all_taken f g xs i l)
+  pub all_documents : length xs ≤ i → Adds (document_resources reading 0 (some_of i)) old new
+      → Adds (document_resources reading 0 (first ∷ map g (map f xs))) old new
+  all_documents l = subst (λ ds. Adds (document_resources reading 0 (first ∷ ds)) old new) (all_taken f g xs i l)
 
-  pub all_embedded : length xs ≤ i → Adds (embedded_resources rule draft 0 (some_of i)) old new
-      → Adds (embedded_resources rule draft 0 (first ∷ map g (map f xs))) old new
-  all_embedded l = subst (λ ds. Adds (embedded_resources rule draft 0 (first ∷ ds)) old new) (all_taken f g xs i l)
+  pub all_embedded : length xs ≤ i → Adds (embedded_resources reading 0 (some_of i)) old new
+      → Adds (embedded_resources reading 0 (first ∷ map g (map f xs))) old new
+  all_embedded l = subst (λ ds. Adds (embedded_resources reading 0 (first ∷ ds)) old new) (all_taken f g xs i l)
 
 -- the resources of the root document only
 pub only_first : (rs : List Resource) (old new : Gathered) → Adds rs old new → Adds (rs ++ []) old new

@@ -22,18 +22,20 @@ use Rattle.theory_definitions.specs.Plan.{lies_in, segment_count, segments_lengt
 use Rattle.theory_meaning.proofs.SameRun.{place_is}
 use Rattle.standard_subschemas.specs.declared.rules.Rule.{Rule}
 use Rattle.standard_subschemas.specs.declared.rules.Rule.TheVariants.{Narrow, Standard}
-use Rattle.standard_subschemas.specs.SubschemaRules.{data_of, detected, fragment_of, identifier, without_fragment}
+use Rattle.standard_subschemas.specs.SubschemaRules.{data_of, fragment_of, identifier, without_fragment}
+use Rattle.standard_resolver.specs.Dialects.{Reading, detected, is_refused, root_dialect}
 use Rattle.standard_resolver.specs.ResolverDocuments.{HeldDocuments, Document, documents_of, value_in}
 use Rattle.standard_subschemas.specs.DocumentKeys.{has_text, number_in}
 use Rattle.standard_subschemas.specs.DocumentPointers.{is_read, path_by_pointer, path_named, path_of_pointer, step_named}
-use Rattle.standard_subschemas.specs.DocumentUris.{own_uri, resolve_uri}
+use Rattle.standard_subschemas.specs.DocumentUris.{own_uri, resolve_uri, root_base}
 use Rattle.standard_resolver.specs.DocumentResources.{Resource, Table, Visited, base_in, document_resources, embedded, embedded_resources}
-use Rattle.standard_resolver.specs.DocumentResources.{identified as resources_at, number_of, place_of_resource, resource_if, resource_key}
-use Rattle.standard_resolver.specs.DocumentResources.{resources_of, uri_at, walked, with_resource, with_resources}
-use Rattle.standard_resolver.specs.DocumentStates.{Point, enter, entered_by, entered_inner, no_identified, number_if_at, resource_under, root_of, state_outside}
+use Rattle.standard_resolver.specs.DocumentResources.{identified as resources_at, identified_by, identified_root, normal_by, number_of}
+use Rattle.standard_resolver.specs.DocumentResources.{place_of_resource, resource_if, resource_key, resources_of, root_visited, uri_at, walked}
+use Rattle.standard_resolver.specs.DocumentResources.{with_resource, with_resources}
+use Rattle.standard_resolver.specs.DocumentStates.{Point, enter, entered_by, entered_if_known, entered_inner, no_identified, number_if_at, resource_under, root_of, state_outside}
 use Rattle.standard_resolver.specs.DocumentLookups.{arrived, is_subschema, target_by_path, target_by_pointer, target_in, target_of_uri}
 use Rattle.standard_resolver.specs.DocumentLookups.{target_under}
-use Rattle.standard_resolver.specs.ResolverAnswers.{document_resolving, table_of}
+use Rattle.standard_resolver.specs.ResolverAnswers.{document_resolving, reading_in, table_of}
 use Rattle.standard_resolver.specs.ResolverStart.{BasesStand, NarrowBasesStand, StartsAtInnermost, innermost, innermost_along, innermost_in}
 use Rattle.standard_resolver.specs.ResolverStart.{innermost_under}
 use Rattle.standard_resolver.proofs.Arrivals.{arrives_inside, arrives_nowhere, arrives_past, arrives_refused}
@@ -54,6 +56,11 @@ text_at t (k ∷ ks) n h = go (has_text t k) refl (number_in t ks) (text_at t ks
   go false e None ih m h = absurd (let no : ⊥ = cc in no)
   go false e (Some i) ih zero h = absurd (let no : suc i ≡ 0 = cc in omega arith)
   go false e (Some i) ih (suc m) h = let same : suc i ≡ suc m = cc in let less : i ≡ m = omega arith in ih m (ap (λ x. Some x) less)
+
+-- what is not refused
+not_refused : {A : Type 0} (b : Bool) (text : Text) (r : Result A Text) (x : A) → cond b (Err text) r ≡ Ok x → r ≡ Ok x
+not_refused true text r x h = absurd (let no : ⊥ = cc in no)
+not_refused false text r x h = h
 
 module _ (table : Table) where
   named_uri : (uri : Text) (n : ℕ) (x : Resource) → number_of uri table.resources ≡ Some n → slice_get table.resources n ≡ Some x → x.uri
@@ -105,15 +112,19 @@ module _ (table : Table) where
   by_uri p id s inside None h = absurd (let no : ⊥ = cc in no)
   by_uri p id s inside (Some uri) h = by_number p id uri s inside (number_of uri table.resources) refl h
 
-  by_identifier : (p outside : SchemaPlace) (before s inside : Point) (o : Option Text) → root_of table s ≡ outside
+  by_identifier : (draft : Draft) (schema : Data) (p outside : SchemaPlace) (before s inside : Point) (o : Option Text)
+      → root_of table s ≡ outside
       → elim o as (λ _. Result Point Text) [
         | None ↦ Ok s
-        | Some id ↦ entered_by table p id (state_outside table.rule before s) (own_uri table.rule s.base id)
+        | Some id ↦ entered_if_known table draft schema
+            (entered_by table p id (state_outside table.reading.rule before s) (own_uri table.reading.rule s.base id))
       ] ≡ Ok inside
       → root_of table inside ≡ cond (is_some o) p outside
-  by_identifier p outside before s inside None was h = let same : s ≡ inside = cc in subst (λ q. root_of table q ≡ outside) same was
-  by_identifier p outside before s inside (Some id) was h =
-      by_uri p id (state_outside table.rule before s) inside (own_uri table.rule s.base id) h
+  by_identifier draft schema p outside before s inside None was h = let same : s ≡ inside = cc in
+      subst (λ q. root_of table q ≡ outside) same was
+  by_identifier draft schema p outside before s inside (Some id) was h =
+      by_uri p id (state_outside table.reading.rule before s) inside (own_uri table.reading.rule s.base id)
+      (not_refused (is_refused table.reading.rule draft) _ _ _ h)
 
 -- ---- along a path below a resource's root
 
@@ -133,7 +144,7 @@ module _ (table : Table) (reference : Text) (document : ℕ) (before : Point) (r
       (f : Found Point)
       → gone ≡ last ++ rest → gone_in ≡ root ++ gone → root_of table s ≡ at last
       → arrived table reference document before draft schema since reached gone_in s path ≡ Ok f
-      → Lies (innermost_along table.rule draft schema since reached gone last path) (gone ++ path) f
+      → Lies (innermost_along table.reading draft schema since reached gone last path) (gone ++ path) f
 
   longer : (gone step last rest : Place) → gone ≡ last ++ rest → gone ++ step ≡ last ++ (rest ++ step)
   longer gone step last rest e = ap (λ p. p ++ step) e ∙ append_assoc last rest step
@@ -141,7 +152,7 @@ module _ (table : Table) (reference : Text) (document : ℕ) (before : Point) (r
   ended : Along []
   ended draft schema since reached gone last rest gone_in s f within same begins h =
       let found : Found Point =
-      record { place = record { document = document; path = gone_in }; state = s; draft = detected draft reached } in
+      record { place = record { document = document; path = gone_in }; state = s; draft = detected table.reading draft reached } in
       let is : found ≡ f = cc in
       subst (Lies last (gone ++ [])) is (record {
         place = ap (λ (p : Place). let q : SchemaPlace = record { document = document; path = p } in q)
@@ -156,7 +167,7 @@ module _ (table : Table) (reference : Text) (document : ℕ) (before : Point) (r
       (within : gone ≡ last ++ rest) (same : gone_in ≡ root ++ gone) (begins : root_of table s ≡ at last)
       (h : arrived table reference document before draft schema since reached gone_in s (step ∷ path) ≡ Ok f) where
     abbrev Goal : Type 0
-    Goal = Lies (innermost_along table.rule draft schema since reached gone last (step ∷ path)) (gone ++ step ∷ path) f
+    Goal = Lies (innermost_along table.reading draft schema since reached gone last (step ∷ path)) (gone ++ step ∷ path) f
 
     next : gone_in ++ step ∷ [] ≡ root ++ (gone ++ step ∷ [])
     next = ap (λ p. p ++ step ∷ []) same ∙ append_assoc root gone (step ∷ [])
@@ -165,67 +176,69 @@ module _ (table : Table) (reference : Text) (document : ℕ) (before : Point) (r
     whole = append_assoc gone (step ∷ []) path
 
     module _ (below : Data) (stands : data_of (after_step step (a_value reached)) ≡ Some below) where
-      past : is_subschema table.rule draft (since ++ step ∷ []) schema ≡ false → Goal
+      past : is_subschema table.reading.rule draft (since ++ step ∷ []) schema ≡ false → Goal
       past e =
-          let inner : innermost_along table.rule draft schema since reached gone last (step ∷ path)
-          ≡ innermost_along table.rule draft schema (since ++ step ∷ []) below (gone ++ step ∷ []) last path =
+          let inner : innermost_along table.reading draft schema since reached gone last (step ∷ path)
+          ≡ innermost_along table.reading draft schema (since ++ step ∷ []) below (gone ++ step ∷ []) last path =
           rw (stands, e, innermost_along) refl in
           let found = sym (arrives_past table reference document before draft schema since reached gone_in s step path below stands e) ∙ h in
           let lies = ih draft schema (since ++ step ∷ []) below (gone ++ step ∷ []) last (rest ++ step ∷ []) (gone_in ++ step ∷ []) s f
           (longer gone (step ∷ []) last rest within) next begins found in
           subst (λ p. Lies p (gone ++ step ∷ path) f) (sym inner)
-          (subst (λ p. Lies (innermost_along table.rule draft schema (since ++ step ∷ []) below (gone ++ step ∷ []) last path) p f)
+          (subst (λ p. Lies (innermost_along table.reading draft schema (since ++ step ∷ []) below (gone ++ step ∷ []) last path) p f)
           whole lies)
 
-      module _ (is : is_subschema table.rule draft (since ++ step ∷ []) schema ≡ true) where
+      module _ (is : is_subschema table.reading.rule draft (since ++ step ∷ []) schema ≡ true) where
         abbrev here : SchemaPlace
         here = record { document = document; path = gone_in ++ step ∷ [] }
 
         abbrev identified : Bool
-        identified = is_some (identifier (detected draft below) below)
+        identified = is_some (identifier (detected table.reading draft below) below)
 
         -- the last subschema with an identifier, and the path from there
-        inside : (state : Point) → entered_inner table before s (detected draft below) here below ≡ Ok state → (b : Bool) → identified ≡ b → Goal
+        inside : (state : Point) → entered_inner table before s (detected table.reading draft below) here below ≡ Ok state → (b : Bool)
+            → identified ≡ b → Goal
         inside state entered b was =
-            let inner : innermost_along table.rule draft schema since reached gone last (step ∷ path)
-            ≡ innermost_along table.rule (detected draft below) below
+            let inner : innermost_along table.reading draft schema since reached gone last (step ∷ path)
+            ≡ innermost_along table.reading (detected table.reading draft below) below
             [] below (gone ++ step ∷ []) (cond b (gone ++ step ∷ []) last) path
             = rw (stands, is, was, innermost_along) refl in
             let found = sym (arrives_inside table reference document before draft schema since reached gone_in s step path below stands state is
             entered) ∙ h in
             let from : root_of table state ≡ cond b here (at last) =
-            by_identifier table here (at last) before s state (identifier (detected draft below) below) begins entered
+            by_identifier table (detected table.reading draft below) below here (at last) before s state
+            (identifier (detected table.reading draft below) below) begins entered
             ∙ ap (λ v. cond v here (at last)) was in
             let go : (v : Bool) → root_of table state ≡ cond v here (at last)
-            → Lies (innermost_along table.rule (detected draft below) below
+            → Lies (innermost_along table.reading (detected table.reading draft below) below
             [] below (gone ++ step ∷ []) (cond v (gone ++ step ∷ []) last) path) ((gone ++ step ∷ []) ++ path) f
             = elim [
-              | true ↦ λ e. ih (detected draft below) below [] below (gone ++ step ∷ []) (gone ++ step ∷ [])
+              | true ↦ λ e. ih (detected table.reading draft below) below [] below (gone ++ step ∷ []) (gone ++ step ∷ [])
                   [] (gone_in ++ step ∷ []) state f (sym (append-nil (gone ++ step ∷ []))) next
                   (e ∙ ap (λ (p : Place). let q : SchemaPlace = record { document = document; path = p } in q) next) found
-              | false ↦ λ e. ih (detected draft below) below
+              | false ↦ λ e. ih (detected table.reading draft below) below
                   [] below (gone ++ step ∷ []) last (rest ++ step ∷ []) (gone_in ++ step ∷ []) state f
                   (longer gone (step ∷ []) last rest within) next e found
             ] in
             subst (λ p. Lies p (gone ++ step ∷ path) f) (sym inner)
-            (subst (λ p. Lies (innermost_along table.rule (detected draft below) below
+            (subst (λ p. Lies (innermost_along table.reading (detected table.reading draft below) below
             [] below (gone ++ step ∷ []) (cond b (gone ++ step ∷ []) last) path) p f) whole (go b from))
 
-        subschema : (o : Result Point Text) → entered_inner table before s (detected draft below) here below ≡ o → Goal
+        subschema : (o : Result Point Text) → entered_inner table before s (detected table.reading draft below) here below ≡ o → Goal
         subschema (Ok state) e = inside state e identified refl
         subschema (Err text) e =
             absurd (let no = sym (arrives_refused table reference document before draft schema since reached gone_in s step path below stands text
             is e) ∙ h in let never : ⊥ = cc in never)
 
-      either : (b : Bool) → is_subschema table.rule draft (since ++ step ∷ []) schema ≡ b → Goal
+      either : (b : Bool) → is_subschema table.reading.rule draft (since ++ step ∷ []) schema ≡ b → Goal
       either false e = past e
       either true e = subschema e
-          (entered_inner table before s (detected draft below) (record { document = document; path = gone_in ++ step ∷ [] }) below) refl
+          (entered_inner table before s (detected table.reading draft below) (record { document = document; path = gone_in ++ step ∷ [] }) below) refl
 
     one_step : (o : Option Data) → data_of (after_step step (a_value reached)) ≡ o → Goal
     one_step None e = absurd (let no = sym (arrives_nowhere table reference document before draft schema since reached gone_in s step path e)
         ∙ h in let never : ⊥ = cc in never)
-    one_step (Some below) e = either below e (is_subschema table.rule draft (since ++ step ∷ []) schema) refl
+    one_step (Some below) e = either below e (is_subschema table.reading.rule draft (since ++ step ∷ []) schema) refl
 
   along : (path : Place) → Along path
   along [] = ended
@@ -317,12 +330,12 @@ module _ (r : HeldDocuments) (stand : BasesStand (table_of r)) (s : Point) (refe
   module _ (n : ℕ) (x : Resource) (number : number_of (without_fragment uri) table.resources ≡ Some n) (there : slice_get table.resources n
       ≡ Some x) where
     by_path : (schema : Data) → value_in (documents_of r) (place_of_resource x) ≡ Some schema → (o : Option Place)
-        → path_by_pointer table.rule pointer schema ≡ o
+        → path_by_pointer table.reading.rule pointer schema ≡ o
         → target_by_path table reference x s (enter n x.base s) schema o ≡ Ok f → Starts
     by_path schema stands None by h = absurd (let no : ⊥ = cc in no)
     by_path schema stands (Some path) by h =
-        let is = read_path (is_read table.rule pointer) (path_of_pointer pointer schema) path by in
-        let inner = innermost_along table.rule x.draft schema [] schema [] [] path in
+        let is = read_path (is_read table.reading.rule pointer) (path_of_pointer pointer schema) path by in
+        let inner = innermost_along table.reading x.draft schema [] schema [] [] path in
         let begin : root_of table (enter n x.base s) ≡ place_of_resource x
         = stand (without_fragment uri) n x s number there in
         let at_root : place_of_resource x ≡ record { document = x.document; path = x.path ++ [] }
@@ -336,27 +349,28 @@ module _ (r : HeldDocuments) (stand : BasesStand (table_of r)) (s : Point) (refe
         let under : innermost_under r uri pointer
         ≡ inner = ap (λ (o : Option Resource). elim o as (λ _. Place) [ None ↦ [] | Some y ↦ innermost_in r pointer y ]) known
         ∙ ap (λ (o : Option Data). elim o as (λ _. Place)
-        [ None ↦ [] | Some whole ↦ innermost r.rule x.draft whole (path_of_pointer pointer whole) ]) stands
-        ∙ ap (innermost r.rule x.draft schema) is in
+        [ None ↦ [] | Some whole ↦ innermost (reading_in r) x.draft whole (path_of_pointer pointer whole) ]) stands
+        ∙ ap (innermost (reading_in r) x.draft schema) is in
         ap (λ d. segments_length d pointer) (depth ∙ ap length (sym under))
 
     by_pointer : (o : Option Data) → value_in (documents_of r) (place_of_resource x) ≡ o
         → target_by_pointer table reference x s (enter n x.base s) (47 ∷ tail) o ≡ Ok f → Starts
     by_pointer None is h = absurd (let no : ⊥ = cc in no)
-    by_pointer (Some schema) is h = by_path schema is (path_by_pointer table.rule pointer schema) refl h
+    by_pointer (Some schema) is h = by_path schema is (path_by_pointer table.reading.rule pointer schema) refl h
 
   in_resource : (n : ℕ) → number_of (without_fragment uri) table.resources ≡ Some n → (o : Option Resource) → slice_get table.resources n
       ≡ o
       → target_in table (documents_of r) reference uri s dynamic (47 ∷ tail) n o ≡ Ok f → Starts
   in_resource n number None there h = absurd (let no : ⊥ = cc in no)
-  in_resource n number (Some x) there h = by_pointer n x number there (value_in (documents_of r) (place_of_resource x)) refl h
+  in_resource n number (Some x) there h = by_pointer n x number there (value_in (documents_of r) (place_of_resource x)) refl
+      (not_refused (is_refused table.reading.rule x.draft) _ _ _ h)
 
   under_uri : (o : Option ℕ) → number_of (without_fragment uri) table.resources ≡ o
       → target_under table (documents_of r) reference uri s dynamic (47 ∷ tail) o ≡ Ok f → Starts
   under_uri None number h = absurd (let no : ⊥ = cc in no)
   under_uri (Some n) number h = in_resource n number (slice_get table.resources n) refl h
 
-  pub starts_there : resolve_uri table.rule s.base reference ≡ Ok uri → fragment_of uri ≡ 47 ∷ tail
+  pub starts_there : resolve_uri table.reading.rule s.base reference ≡ Ok uri → fragment_of uri ≡ 47 ∷ tail
       → (document_resolving r).lookup s reference dynamic ≡ Ok f → Starts
   starts_there stands_for by h =
       under_uri (number_of (without_fragment uri) table.resources) refl
@@ -392,29 +406,44 @@ all_listed : (xs listed : List Resource) → SameBases xs → SameBases listed �
 all_listed [] listed h k = k
 all_listed (x ∷ xs) listed h k = all_listed xs (with_resource listed x) h.1 (listed_with (is_some (number_of x.uri listed)) x listed h.0 k)
 
-if_identified : (n : ℕ) (v : Visited) (o : Option Text) → SameBases (resource_if Narrow n v o)
-if_identified n v None = tt
-if_identified n v (Some uri) = (refl, tt)
+module _ (reading : Reading) where
+  if_identified : (n : ℕ) (v : Visited) (o : Option Text) → SameBases (resource_if reading n v o)
+  if_identified n v None = tt
+  if_identified n v (Some uri) = (refl, tt)
 
-all_identified : (n : ℕ) (vs : List Visited) → SameBases (flat_map (resources_at Narrow n) vs)
-all_identified n [] = tt
-all_identified n (v ∷ vs) = joined (resources_at Narrow n v) (flat_map (resources_at Narrow n) vs) (if_identified n v (uri_at Narrow v))
-    (all_identified n vs)
+  all_identified : (n : ℕ) (vs : List Visited) → SameBases (flat_map (resources_at reading n) vs)
+  all_identified n [] = tt
+  all_identified n (v ∷ vs) = joined (resources_at reading n v) (flat_map (resources_at reading n) vs)
+      (if_identified n v (uri_at reading.rule v)) (all_identified n vs)
 
-of_documents : (draft : Draft) (n : ℕ) (ds : List Document) → SameBases (document_resources Narrow draft n ds)
-of_documents draft n [] = tt
-of_documents draft n (d ∷ ds) = (refl, of_documents draft (n + 1) ds)
+  of_root : (rule : Rule) → rule ≡ Narrow → (n : ℕ) (v : Visited) → SameBases (identified_by rule reading n v)
+  of_root Narrow e n v = tt
+  of_root Standard e n v = absurd (let no : ⊥ = cc in no)
 
-of_embedded : (draft : Draft) (n : ℕ) (ds : List Document) → SameBases (embedded_resources Narrow draft n ds)
-of_embedded draft n [] = tt
-of_embedded draft n (d ∷ ds) = joined (embedded Narrow draft n d) (embedded_resources Narrow draft (n + 1) ds)
-    (all_identified n (walked Narrow true [] (base_in Narrow draft d) (detected draft d.value) d.value)) (of_embedded draft (n + 1) ds)
+  of_normal : (rule : Rule) → rule ≡ Narrow → (n : ℕ) (d : Document) → SameBases (normal_by rule reading n d)
+  of_normal Narrow e n d = tt
+  of_normal Standard e n d = absurd (let no : ⊥ = cc in no)
 
-same_bases : (rule : Rule) → rule ≡ Narrow → (draft : Draft) (ds : List Document) → SameBases (resources_of rule draft ds)
-same_bases Narrow e draft ds =
-    all_listed (embedded_resources Narrow draft 0 ds) (with_resources [] (document_resources Narrow draft 0 ds)) (of_embedded draft 0 ds)
-    (all_listed (document_resources Narrow draft 0 ds) [] (of_documents draft 0 ds) tt)
-same_bases Standard e draft ds = absurd (let no : ⊥ = cc in no)
+  of_documents : reading.rule ≡ Narrow → (n : ℕ) (ds : List Document) → SameBases (document_resources reading n ds)
+  of_documents e n [] = tt
+  of_documents e n (d ∷ ds) = (
+    ap (λ (rule : Rule). root_base rule d.uri (root_dialect reading n d.value).draft d.value) e,
+    joined (normal_by reading.rule reading n d) (document_resources reading (n + 1) ds) (of_normal reading.rule e n d)
+        (of_documents e (n + 1) ds),
+  )
+
+  of_embedded : reading.rule ≡ Narrow → (n : ℕ) (ds : List Document) → SameBases (embedded_resources reading n ds)
+  of_embedded e n [] = tt
+  of_embedded e n (d ∷ ds) =
+      let inside = walked reading true [] (base_in reading n d) (root_dialect reading n d.value) d.value in
+      joined (embedded reading n d) (embedded_resources reading (n + 1) ds)
+      (joined (identified_root reading n (root_visited reading n d)) (flat_map (resources_at reading n) inside)
+      (of_root reading.rule e n (root_visited reading n d)) (all_identified n inside)) (of_embedded e (n + 1) ds)
+
+  same_bases : reading.rule ≡ Narrow → (ds : List Document) → SameBases (resources_of reading ds)
+  same_bases e ds =
+      all_listed (embedded_resources reading 0 ds) (with_resources [] (document_resources reading 0 ds)) (of_embedded e 0 ds)
+      (all_listed (document_resources reading 0 ds) [] (of_documents e 0 ds) tt)
 
 base_at : (xs : List Resource) (n : ℕ) (x : Resource) → SameBases xs → slice_get xs n ≡ Some x → SameBase x
 base_at [] n x h e = absurd (let no : ⊥ = cc in no)
@@ -424,5 +453,5 @@ base_at (y ∷ xs) (suc n) x h e = base_at xs n x h.1 e
 pub narrow_bases : NarrowBasesStand
 narrow_bases r e uri n x s number there =
     let table = table_of r in
-    let same = base_at table.resources n x (same_bases r.rule e r.default_draft (documents_of r)) there in
+    let same = base_at table.resources n x (same_bases (reading_in r) e (documents_of r)) there in
     ap (λ u. root_of table (enter n u s)) (same ∙ named_uri table uri n x number there) ∙ found_root table uri n x s number there

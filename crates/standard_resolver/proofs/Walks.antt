@@ -13,11 +13,12 @@ use Rattle.theory_definitions.specs.Instance.{Place, Subject, Text, a_name, a_va
 use Rattle.theory_meaning.proofs.Falls.{path_falls}
 use Rattle.standard_subschemas.specs.declared.rules.Rule.{Rule}
 use Rattle.standard_subschemas.specs.FragmentNames.{name_read}
-use Rattle.standard_subschemas.specs.SubschemaRules.{data_of, detected, dynamic_name, identifier, plain_name, subschemas}
+use Rattle.standard_subschemas.specs.SubschemaRules.{data_of, dynamic_name, identifier, plain_name, subschemas}
 use Rattle.standard_subschemas.specs.FoundSchemas.{Found, found_at}
 use Rattle.standard_subschemas.specs.FoundViews.{found_of, path_of}
 use Rattle.standard_subschemas.specs.PlainSchemas.{IsPlain}
 use Rattle.standard_subschemas.specs.declared.below.FoundSchema.{FoundSchema}
+use Rattle.standard_resolver.specs.Dialects.{Dialect, Reading, dialect_inside}
 use Rattle.standard_resolver.specs.DocumentResources.{Visited, goes_into, identified, name_if, names_at, resource_if, visited_at, visited_below}
 use Rattle.standard_resolver.specs.DocumentResources.{visited_if}
 use Rattle.standard_resolver.specs.ResourceSpeaking.{kept_if, speaking, speaks}
@@ -50,22 +51,22 @@ lower schema below (s ∷ p) l h = let e : suc (depth below) < suc (depth schema
 -- ---- the schemas that the walk keeps
 
 -- the schemas that are kept below the subschemas of a schema; the base is the one inside it
-abbrev pub from : Rule → Bool → ℕ → Place → Text → Draft → Found → List Visited
-from rule everywhere n path base draft f =
-    filter (speaking rule everywhere) (visited_at rule (visited_below rule everywhere n) everywhere (path ++ f.path) base draft f.schema)
+abbrev pub from : Reading → Bool → ℕ → Place → Text → Dialect → Found → List Visited
+from reading everywhere n path base dialect f =
+    filter (speaking reading.rule everywhere) (visited_at reading (visited_below reading everywhere n) everywhere (path ++ f.path) base dialect f.schema)
 
 module _ {A B : Type 0} (p : B → Bool) (f : A → List B) where
   filter_flat : (xs : List A) → filter p (flat_map f xs) ≡ flat_map (λ x. filter p (f x)) xs
   filter_flat [] = refl
   filter_flat (x ∷ xs) = filter-append p (f x) (flat_map f xs) ∙ ap (λ ys. filter p (f x) ++ ys) (filter_flat xs)
 
-kept_below : (rule : Rule) (everywhere : Bool) (n : ℕ) (path : Place) (base : Text) (draft : Draft) (schema : Data) (ps : List Place)
-    → flat_map (from rule everywhere n path base draft) (map (found_at schema) ps)
-    ≡ flat_map (λ p. filter (speaking rule everywhere)
-    (visited_at rule (visited_below rule everywhere n) everywhere (path ++ p) base draft (data_of (subject_at schema p)))) ps
-kept_below rule everywhere n path base draft schema [] = refl
-kept_below rule everywhere n path base draft schema (p ∷ ps) =
-    ap (λ ys. from rule everywhere n path base draft (found_at schema p) ++ ys) (kept_below rule everywhere n path base draft schema ps)
+kept_below : (reading : Reading) (everywhere : Bool) (n : ℕ) (path : Place) (base : Text) (dialect : Dialect) (schema : Data) (ps : List Place)
+    → flat_map (from reading everywhere n path base dialect) (map (found_at schema) ps)
+    ≡ flat_map (λ p. filter (speaking reading.rule everywhere)
+    (visited_at reading (visited_below reading everywhere n) everywhere (path ++ p) base dialect (data_of (subject_at schema p)))) ps
+kept_below reading everywhere n path base dialect schema [] = refl
+kept_below reading everywhere n path base dialect schema (p ∷ ps) =
+    ap (λ ys. from reading everywhere n path base dialect (found_at schema p) ++ ys) (kept_below reading everywhere n path base dialect schema ps)
 
 -- ---- subschemas lie deeper
 
@@ -124,83 +125,83 @@ one_back way longer back f n count is rest =
     let less : n - 1 ≡ length way = omega arith in
     rest ∙ ap (λ m. take m longer) less ∙ ap (take (length way)) is ∙ take_first way (f ∷ [])
 
-module _ (rule : Rule) (everywhere : Bool) (n : ℕ) (path : Place) (base : Text) (draft : Draft) (below : Data) (q : Place) (d : Draft)
-    (is : d ≡ detected draft below) where
-  pub leaves : goes_into everywhere d below ≡ false → from rule everywhere n path base draft (record { path = q; schema = Some below })
+module _ (reading : Reading) (everywhere : Bool) (n : ℕ) (path : Place) (base : Text) (dialect : Dialect) (below : Data) (q : Place) (d : Dialect)
+    (is : d ≡ dialect_inside reading dialect below) where
+  pub leaves : goes_into everywhere d.draft below ≡ false → from reading everywhere n path base dialect (record { path = q; schema = Some below })
       ≡ []
-  leaves goes = ap (λ (d' : Draft). filter (speaking rule everywhere)
-      (visited_if rule (visited_below rule everywhere n) (path ++ q) base d' below (goes_into everywhere d' below))) (sym is)
-      ∙ ap (λ b. filter (speaking rule everywhere) (visited_if rule (visited_below rule everywhere n) (path ++ q) base d below b)) goes
+  leaves goes = ap (λ (d' : Dialect). filter (speaking reading.rule everywhere)
+      (visited_if reading (visited_below reading everywhere n) (path ++ q) base d' below (goes_into everywhere d'.draft below))) (sym is)
+      ∙ ap (λ b. filter (speaking reading.rule everywhere) (visited_if reading (visited_below reading everywhere n) (path ++ q) base d below b)) goes
 
-  pub goes_on : (old kept new : List Visited) (at : Place) (inside : Text) → at ≡ path ++ q → inside ≡ base_inside rule base d below
-      → goes_into everywhere d below ≡ true
-      → kept ≡ old ++ kept_if (speaks rule everywhere d below) (record { path = at; base = base; draft = d; schema = below })
-      → new ≡ kept ++ filter (speaking rule everywhere) (visited_below rule everywhere n at inside d below)
-      → new ≡ old ++ from rule everywhere n path base draft (record { path = q; schema = Some below })
+  pub goes_on : (old kept new : List Visited) (at : Place) (inside : Text) → at ≡ path ++ q → inside ≡ base_inside reading.rule base d.draft below
+      → goes_into everywhere d.draft below ≡ true
+      → kept ≡ old ++ kept_if (speaks reading.rule everywhere d.draft below) (record { path = at; base = base; dialect = d; schema = below })
+      → new ≡ kept ++ filter (speaking reading.rule everywhere) (visited_below reading everywhere n at inside d below)
+      → new ≡ old ++ from reading everywhere n path base dialect (record { path = q; schema = Some below })
   goes_on old kept new at inside there based goes k m =
-      let v : Visited = record { path = at; base = base; draft = d; schema = below } in
-      let rest = visited_below rule everywhere n at (base_inside rule base d below) d below in
-      m ∙ ap (λ (t : Text). kept ++ filter (speaking rule everywhere) (visited_below rule everywhere n at t d below)) based
-      ∙ ap (λ (xs : List Visited). xs ++ filter (speaking rule everywhere) rest) k
-      ∙ append_assoc old (kept_if (speaks rule everywhere d below) v) (filter (speaking rule everywhere) rest)
+      let v : Visited = record { path = at; base = base; dialect = d; schema = below } in
+      let rest = visited_below reading everywhere n at (base_inside reading.rule base d.draft below) d below in
+      m ∙ ap (λ (t : Text). kept ++ filter (speaking reading.rule everywhere) (visited_below reading everywhere n at t d below)) based
+      ∙ ap (λ (xs : List Visited). xs ++ filter (speaking reading.rule everywhere) rest) k
+      ∙ append_assoc old (kept_if (speaks reading.rule everywhere d.draft below) v) (filter (speaking reading.rule everywhere) rest)
       ∙ ap (λ (xs : List Visited). old ++ xs) (
-      kept_first rule everywhere (speaks rule everywhere d below) v rest refl
-      ∙ ap (λ (p : Place). filter (speaking rule everywhere) (record { path = p; base = base; draft = d; schema = below }
-      ∷ visited_below rule everywhere n p (base_inside rule base d below) d below)) there
-      ∙ ap (λ b. filter (speaking rule everywhere) (visited_if rule (visited_below rule everywhere n) (path ++ q) base d below b))
+      kept_first reading.rule everywhere (speaks reading.rule everywhere d.draft below) v rest refl
+      ∙ ap (λ (p : Place). filter (speaking reading.rule everywhere) (record { path = p; base = base; dialect = d; schema = below }
+      ∷ visited_below reading everywhere n p (base_inside reading.rule base d.draft below) d below)) there
+      ∙ ap (λ b. filter (speaking reading.rule everywhere) (visited_if reading (visited_below reading everywhere n) (path ++ q) base d below b))
       (sym goes)
-      ∙ ap (λ (d' : Draft). filter (speaking rule everywhere)
-      (visited_if rule (visited_below rule everywhere n) (path ++ q) base d' below (goes_into everywhere d' below))) is
+      ∙ ap (λ (d' : Dialect). filter (speaking reading.rule everywhere)
+      (visited_if reading (visited_below reading everywhere n) (path ++ q) base d' below (goes_into everywhere d'.draft below))) is
       )
 
 -- a schema that does not concern the resolver adds nothing
-module _ (rule : Rule) (everywhere : Bool) (path : Place) (base : Text) (draft : Draft) (below : Data) (plain : IsPlain rule below) where
-  quiet : (b : Bool) → speaks rule b draft below ≡ false
-  quiet true = ap is_some (plain.no_identifier draft)
-  quiet false = ap (λ o. is_some o || is_some (dynamic_name rule draft below)) (plain.no_name draft)
-      ∙ ap is_some (plain.no_dynamic_name draft)
+module _ (reading : Reading) (everywhere : Bool) (path : Place) (base : Text) (dialect : Dialect) (below : Data) (plain : IsPlain reading.rule below) where
+  quiet : (b : Bool) → speaks reading.rule b dialect.draft below ≡ false
+  quiet true = ap is_some (plain.no_identifier dialect.draft)
+  quiet false = ap (λ o. is_some o || is_some (dynamic_name reading.rule dialect.draft below)) (plain.no_name dialect.draft)
+      ∙ ap is_some (plain.no_dynamic_name dialect.draft)
 
-  nothing_deeper : (n : ℕ) (inside : Text) → visited_below rule everywhere n path inside draft below ≡ []
+  nothing_deeper : (n : ℕ) (inside : Text) → visited_below reading everywhere n path inside dialect below ≡ []
   nothing_deeper zero inside = refl
   nothing_deeper (suc n) inside =
-      ap (flat_map (λ p. visited_at rule (visited_below rule everywhere n) everywhere (path ++ p) inside draft
-      (data_of (subject_at below p)))) (plain.no_subschemas draft)
+      ap (flat_map (λ p. visited_at reading (visited_below reading everywhere n) everywhere (path ++ p) inside dialect
+      (data_of (subject_at below p)))) (plain.no_subschemas dialect.draft)
 
   nothing_if : (n : ℕ) (b : Bool)
-      → filter (speaking rule everywhere) (visited_if rule (visited_below rule everywhere n) path base draft below b) ≡ []
+      → filter (speaking reading.rule everywhere) (visited_if reading (visited_below reading everywhere n) path base dialect below b) ≡ []
   nothing_if n false = refl
   nothing_if n true =
-      let v : Visited = record { path = path; base = base; draft = draft; schema = below } in
-      let inside = base_inside rule base draft below in
-      let rest = filter (speaking rule everywhere) (visited_below rule everywhere n path inside draft below) in
-      ap (λ b. cond b (v ∷ rest) rest) (quiet everywhere) ∙ ap (filter (speaking rule everywhere)) (nothing_deeper n inside)
+      let v : Visited = record { path = path; base = base; dialect = dialect; schema = below } in
+      let inside = base_inside reading.rule base dialect.draft below in
+      let rest = filter (speaking reading.rule everywhere) (visited_below reading everywhere n path inside dialect below) in
+      ap (λ b. cond b (v ∷ rest) rest) (quiet everywhere) ∙ ap (filter (speaking reading.rule everywhere)) (nothing_deeper n inside)
 
-pub adds_nothing : (rule : Rule) (everywhere : Bool) (n : ℕ) (path : Place) (base : Text) (draft : Draft) (below : Data) (q : Place)
-    → IsPlain rule below
-    → from rule everywhere n path base draft (record { path = q; schema = Some below }) ≡ []
-adds_nothing rule everywhere n path base draft below q plain =
-    nothing_if rule everywhere (path ++ q) base (detected draft below) below plain n (goes_into everywhere (detected draft below) below)
+pub adds_nothing : (reading : Reading) (everywhere : Bool) (n : ℕ) (path : Place) (base : Text) (dialect : Dialect) (below : Data) (q : Place)
+    → IsPlain reading.rule below
+    → from reading everywhere n path base dialect (record { path = q; schema = Some below }) ≡ []
+adds_nothing reading everywhere n path base dialect below q plain =
+    nothing_if reading everywhere (path ++ q) base (dialect_inside reading dialect below) below plain n (goes_into everywhere (dialect_inside reading dialect below).draft below)
 
 pub passed : {A : Type 0} (old none : List A) → none ≡ [] → old ≡ old ++ none
 passed old none e = sym (append-nil old) ∙ ap (λ ys. old ++ ys) (sym e)
 
 -- all of them
-pub finished : (rule : Rule) (everywhere : Bool) (path : Place) (base : Text) (draft : Draft) (schema : Data) (items : List FoundSchema)
+pub finished : (reading : Reading) (everywhere : Bool) (path : Place) (base : Text) (dialect : Dialect) (schema : Data) (items : List FoundSchema)
     (k : ℕ) (old new : List Visited)
-    → map found_of items ≡ map (found_at schema) (subschemas rule draft schema) → length items ≤ k
-    → ((n : ℕ) → depth schema ≤ n → new ++ flat_map (from rule everywhere n path base draft) (map found_of (drop k items)) ≡ old
-    ++ flat_map (from rule everywhere n path base draft) (map found_of items))
-    → (n : ℕ) → depth schema < n → new ≡ old ++ filter (speaking rule everywhere) (visited_below rule everywhere n path base draft schema)
-finished rule everywhere path base draft schema items k old new paths l so_far zero less = absurd (omega arith)
-finished rule everywhere path base draft schema items k old new paths l so_far (suc n) less =
-    let f = from rule everywhere n path base draft in
+    → map found_of items ≡ map (found_at schema) (subschemas reading.rule dialect.draft schema) → length items ≤ k
+    → ((n : ℕ) → depth schema ≤ n → new ++ flat_map (from reading everywhere n path base dialect) (map found_of (drop k items)) ≡ old
+    ++ flat_map (from reading everywhere n path base dialect) (map found_of items))
+    → (n : ℕ) → depth schema < n → new ≡ old ++ filter (speaking reading.rule everywhere) (visited_below reading everywhere n path base dialect schema)
+finished reading everywhere path base dialect schema items k old new paths l so_far zero less = absurd (omega arith)
+finished reading everywhere path base dialect schema items k old new paths l so_far (suc n) less =
+    let f = from reading everywhere n path base dialect in
     sym (append-nil new) ∙ ap (λ (xs : List FoundSchema). new ++ flat_map f (map found_of xs)) (sym (drop_all k items l))
     ∙ so_far n (omega arith) ∙ ap (λ (fs : List Found). old ++ flat_map f fs) paths
     ∙ ap (λ (vs : List Visited). old ++ vs) (
-    kept_below rule everywhere n path base draft schema (subschemas rule draft schema)
-    ∙ sym (filter_flat (speaking rule everywhere)
-    (λ p. visited_at rule (visited_below rule everywhere n) everywhere (path ++ p) base draft (data_of (subject_at schema p)))
-    (subschemas rule draft schema))
+    kept_below reading everywhere n path base dialect schema (subschemas reading.rule dialect.draft schema)
+    ∙ sym (filter_flat (speaking reading.rule everywhere)
+    (λ p. visited_at reading (visited_below reading everywhere n) everywhere (path ++ p) base dialect (data_of (subject_at schema p)))
+    (subschemas reading.rule dialect.draft schema))
     )
 
 -- ---- the schemas that the walk skips add nothing
@@ -226,16 +227,17 @@ pub names_kept : (rule : Rule) (vs kept : List Visited) → kept ≡ filter (spe
     ≡ flat_map (names_at rule) kept
 names_kept rule vs kept e =
     sym (skips (speaking rule false) (names_at rule)
-    (λ v. no_names v (name_read rule v.draft) (plain_name rule v.draft v.schema) (dynamic_name rule v.draft v.schema)) vs) ∙ ap (flat_map (names_at rule)) (sym e)
+    (λ v. no_names v (name_read rule v.dialect.draft) (plain_name rule v.dialect.draft v.schema) (dynamic_name rule v.dialect.draft v.schema)) vs)
+    ∙ ap (flat_map (names_at rule)) (sym e)
 
-no_uri : (rule : Rule) (document : ℕ) (v : Visited) (o : Option Text) → is_some o ≡ false
-    → resource_if rule document v (option_and_then (own_uri rule v.base) o) ≡ []
-no_uri rule document v None e = refl
-no_uri rule document v (Some t) e = absurd (let none : ⊥ = cc in none)
+no_uri : (reading : Reading) (document : ℕ) (v : Visited) (o : Option Text) → is_some o ≡ false
+    → resource_if reading document v (option_and_then (own_uri reading.rule v.base) o) ≡ []
+no_uri reading document v None e = refl
+no_uri reading document v (Some t) e = absurd (let none : ⊥ = cc in none)
 
 -- resources begin with the schemas that are kept
-pub resources_kept : (rule : Rule) (document : ℕ) (vs kept : List Visited) → kept ≡ filter (speaking rule true) vs
-    → flat_map (identified rule document) vs ≡ flat_map (identified rule document) kept
-resources_kept rule document vs kept e =
-    sym (skips (speaking rule true) (identified rule document) (λ v. no_uri rule document v (identifier v.draft v.schema)) vs)
-    ∙ ap (flat_map (identified rule document)) (sym e)
+pub resources_kept : (reading : Reading) (document : ℕ) (vs kept : List Visited) → kept ≡ filter (speaking reading.rule true) vs
+    → flat_map (identified reading document) vs ≡ flat_map (identified reading document) kept
+resources_kept reading document vs kept e =
+    sym (skips (speaking reading.rule true) (identified reading document) (λ v. no_uri reading document v (identifier v.dialect.draft v.schema)) vs)
+    ∙ ap (flat_map (identified reading document)) (sym e)

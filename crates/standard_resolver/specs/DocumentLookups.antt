@@ -14,7 +14,8 @@ use Rattle.theory_definitions.specs.Drafts.{Draft}
 use Rattle.theory_definitions.specs.Resolving.{Found}
 use Rattle.standard_subschemas.specs.declared.rules.Rule.{Rule}
 use Rattle.standard_subschemas.specs.declared.rules.Rule.TheVariants.{Narrow, Standard}
-use Rattle.standard_subschemas.specs.SubschemaRules.{data_of, detected, fragment_of, subschemas, without_fragment}
+use Rattle.standard_subschemas.specs.SubschemaRules.{data_of, fragment_of, subschemas, without_fragment}
+use Rattle.standard_resolver.specs.Dialects.{detected, is_refused, text_or_none, unknown_meta}
 use Rattle.standard_resolver.specs.ResolverDocuments.{Document, value_in}
 use Rattle.standard_subschemas.specs.DocumentPointers.{path_by_pointer}
 use Rattle.standard_subschemas.specs.DocumentUris.{resolve_uri}
@@ -59,14 +60,14 @@ module _ (table : Table) where
   -- each subschema with an identifier is entered. `before` is the state before the pointer.
   abbrev pub arrived : Text → ℕ → Point → Draft → Data → Place → Data → Place → Point → Place → Result (Found Point) Text
   arrived reference document before draft schema since reached gone s [] =
-      Ok (record { place = record { document = document; path = gone }; state = s; draft = detected draft reached })
+      Ok (record { place = record { document = document; path = gone }; state = s; draft = detected table.reading draft reached })
   arrived reference document before draft schema since reached gone s (step ∷ path) = elim (data_of (after_step step (a_value reached))) [
     | None ↦ Err (nothing_there reference)
-    | Some below ↦ elim (is_subschema table.rule draft (since ++ step ∷ []) schema) [
+    | Some below ↦ elim (is_subschema table.reading.rule draft (since ++ step ∷ []) schema) [
       | false ↦ arrived reference document before draft schema (since ++ step ∷ []) below (gone ++ step ∷ []) s path
-      | true ↦ elim (entered_inner table before s (detected draft below) (record { document = document; path = gone ++ step ∷ [] }) below) [
+      | true ↦ elim (entered_inner table before s (detected table.reading draft below) (record { document = document; path = gone ++ step ∷ [] }) below) [
         | Err text ↦ Err text
-        | Ok inside ↦ arrived reference document before (detected draft below) below [] below (gone ++ step ∷ []) inside path
+        | Ok inside ↦ arrived reference document before (detected table.reading draft below) below [] below (gone ++ step ∷ []) inside path
       ]
     ]
   ]
@@ -82,7 +83,7 @@ module _ (table : Table) where
   abbrev pub target_by_pointer : Text → Resource → Point → Point → Text → Option Data → Result (Found Point) Text
   target_by_pointer reference r before s pointer None = Err (nothing_there reference)
   target_by_pointer reference r before s pointer (Some schema) =
-      target_by_path reference r before s schema (path_by_pointer table.rule (utf8_lossy (percent_decode pointer)) schema)
+      target_by_path reference r before s schema (path_by_pointer table.reading.rule (utf8_lossy (percent_decode pointer)) schema)
 
   -- ---- names
 
@@ -119,14 +120,16 @@ module _ (table : Table) where
   target_by_fragment documents reference n r s dynamic [] = Ok (target_root n r s)
   target_by_fragment documents reference n r s dynamic (x ∷ xs) = if x == 47 then target_by_pointer reference r s (enter n r.base s) (x ∷ xs)
       (value_in documents (place_of_resource r))
-      else target_of_name reference n r s dynamic (name_in_fragment table.rule (x ∷ xs))
+      else target_of_name reference n r s dynamic (name_in_fragment table.reading.rule (x ∷ xs))
 
   abbrev pub target_in : List Document → Text → Text → Point → Bool → Text → ℕ → Option Resource → Result (Found Point) Text
-  target_in documents reference uri s dynamic fragment n None = Err (not_at_hand table.rule reference uri)
-  target_in documents reference uri s dynamic fragment n (Some r) = target_by_fragment documents reference n r s dynamic fragment
+  target_in documents reference uri s dynamic fragment n None = Err (not_at_hand table.reading.rule reference uri)
+  target_in documents reference uri s dynamic fragment n (Some r) =
+      if is_refused table.reading.rule r.draft then Err (unknown_meta (text_or_none r.named))
+      else target_by_fragment documents reference n r s dynamic fragment
 
   abbrev pub target_under : List Document → Text → Text → Point → Bool → Text → Option ℕ → Result (Found Point) Text
-  target_under documents reference uri s dynamic fragment None = Err (not_at_hand table.rule reference uri)
+  target_under documents reference uri s dynamic fragment None = Err (not_at_hand table.reading.rule reference uri)
   target_under documents reference uri s dynamic fragment (Some n) =
       target_in documents reference uri s dynamic fragment n (slice_get table.resources n)
 
@@ -137,7 +140,7 @@ module _ (table : Table) where
 
   -- the target of a reference
   abbrev pub looked_up : List Document → Point → Text → Bool → Result (Found Point) Text
-  looked_up documents s reference dynamic = target_of_uri documents reference s dynamic (resolve_uri table.rule s.base reference)
+  looked_up documents s reference dynamic = target_of_uri documents reference s dynamic (resolve_uri table.reading.rule s.base reference)
 
   -- ---- recursive references
 

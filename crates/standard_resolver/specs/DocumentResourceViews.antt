@@ -1,5 +1,5 @@
 -- The resources of the code, as values of the definitions.
-use Rattle.std.specs.Prelude.{string_bytes}
+use Rattle.std.specs.Prelude.{option_map, string_bytes}
 use Rattle.schema_drafts.specs.KeywordViews.{draft_of}
 use Rattle.standard_resolver.specs.declared.resources as code
 use Rattle.standard_resolver.specs.DocumentResources.{Resource}
@@ -11,6 +11,7 @@ resource_of r = record {
   document = r.document;
   path = r.path;
   draft = draft_of r.draft;
+  named = option_map string_bytes r.named;
   recursive = r.is_recursive;
   names = r.names;
 }

@@ -1,11 +1,12 @@
 -- Worked rows of the narrow rule: the targets of references in small documents, by computation.
 -- (Core 2020-12, section 8.2; RFC 6901, section 6)
-use Rattle.std.specs.Prelude.{Bool, Err, List, Ok, Result, [], codes, false, true, ℕ, ◌≡◌, ◌++◌, ◌∷◌}
+use Rattle.std.specs.Prelude.{Bool, Err, List, None, Ok, Result, [], codes, false, true, ℕ, ◌≡◌, ◌++◌, ◌∷◌}
 use Rattle.serde_json.specs.Data.{Data, array, boolean, item, member, no_items, no_members, object, string}
 use Rattle.theory_definitions.specs.Instance.{Place, Text, to_member}
 use Rattle.theory_definitions.specs.Drafts.{Draft, draft_2019_09, draft_2020_12, draft_7}
 use Rattle.theory_definitions.specs.Resolving.{Found}
 use Rattle.standard_subschemas.specs.declared.rules.Rule.TheVariants.{Narrow}
+use Rattle.standard_resolver.specs.Dialects.{reading_of}
 use Rattle.standard_resolver.specs.ResolverDocuments.{Document}
 use Rattle.standard_resolver.specs.DocumentResources.{Table, table_for}
 use Rattle.standard_resolver.specs.DocumentStates.{Point, no_identified, root_of}
@@ -40,7 +41,7 @@ in_these uri ns = record { base = uri; entered = ns }
 
 -- the resources of documents by the narrow rule
 abbrev pub table_in : List Document → Table
-table_in documents = table_for Narrow draft_2020_12 documents
+table_in documents = table_for (reading_of Narrow None draft_2020_12 documents) documents
 
 abbrev pub leads : List Document → Point → Text → Bool → Result (Found Point) Text
 leads documents s reference dynamic = looked_up (table_in documents) documents s reference dynamic

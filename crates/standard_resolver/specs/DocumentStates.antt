@@ -9,6 +9,7 @@ use Rattle.theory_definitions.specs.Drafts.{Draft, SchemaPlace, same_schema_plac
 use Rattle.standard_subschemas.specs.SubschemaRules.{identifier, root_place}
 use Rattle.standard_subschemas.specs.declared.rules.Rule.{Rule}
 use Rattle.standard_subschemas.specs.declared.rules.Rule.TheVariants.{Narrow, Standard}
+use Rattle.standard_resolver.specs.Dialects.{is_refused, schema_of, text_or_none, unknown_meta}
 use Rattle.standard_resolver.specs.ResolverDocuments.{Document}
 use Rattle.standard_subschemas.specs.DocumentUris.{own_uri, root_base}
 use Rattle.standard_resolver.specs.DocumentResources.{Resource, Table, number_of, place_of_resource}
@@ -63,21 +64,29 @@ module _ (table : Table) where
   entered_by p id s None = Err (no_identified id)
   entered_by p id s (Some uri) = elim (number_at p uri) [ None ↦ Err (no_identified id) | Some n ↦ Ok (enter n uri s) ]
 
+  -- a resource is entered only if the draft of its root is known
+  abbrev pub entered_if_known : Draft → Data → Result Point Text → Result Point Text
+  entered_if_known draft schema inside =
+      if is_refused table.reading.rule draft then Err (unknown_meta (text_or_none (schema_of schema))) else inside
+
   -- the state inside a schema below a document's root
   abbrev pub entered_below : Point → Draft → SchemaPlace → Data → Result Point Text
   entered_below s draft p schema = elim (identifier draft schema)
-      [ None ↦ Ok s | Some id ↦ entered_by p id s (own_uri table.rule s.base id) ]
+      [ None ↦ Ok s | Some id ↦ entered_if_known draft schema (entered_by p id s (own_uri table.reading.rule s.base id)) ]
 
   -- the state inside a schema to which a pointer passes; `before` is the state before the pointer, and
   -- s the state in the resource around the schema
   abbrev pub entered_inner : Point → Point → Draft → SchemaPlace → Data → Result Point Text
   entered_inner before s draft p schema = elim (identifier draft schema)
-      [ None ↦ Ok s | Some id ↦ entered_by p id (state_outside table.rule before s) (own_uri table.rule s.base id) ]
+      [ None ↦ Ok s | Some id ↦ entered_if_known draft schema (entered_by p id (state_outside table.reading.rule before s) (own_uri table.reading.rule s.base id)) ]
 
   -- the state inside a document's root
   abbrev pub entered_root : List Document → Point → Draft → SchemaPlace → Data → Result Point Text
-  entered_root documents s draft p schema = elim (identifier draft schema)
-      [ None ↦ Ok s | Some id ↦ entered_by p id s (uri_of_document table.rule draft schema (slice_get documents p.document)) ]
+  entered_root documents s draft p schema = elim (identifier draft schema) [
+    | None ↦ Ok s
+    | Some id ↦ entered_if_known draft schema
+        (entered_by p id s (uri_of_document table.reading.rule draft schema (slice_get documents p.document)))
+  ]
 
   abbrev pub entered_at : List Document → Point → Draft → SchemaPlace → Place → Data → Result Point Text
   entered_at documents s draft p [] schema = entered_root documents s draft p schema

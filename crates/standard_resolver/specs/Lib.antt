@@ -1,10 +1,15 @@
 pub mod ResolverDocuments
+pub mod Dialects
 pub mod DocumentResources
 pub mod ResourceSpeaking
 pub mod DocumentStates
 pub mod DocumentLookups
 pub mod DocumentRows
 pub mod StandardRows
+pub mod DialectRows
+pub mod InForce
+pub mod MetaVocabularies
+pub mod DialectViews
 pub mod DocumentViews
 pub mod DocumentNameViews
 pub mod DocumentResourceViews

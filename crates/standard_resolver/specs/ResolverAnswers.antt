@@ -5,8 +5,10 @@ use Rattle.serde_json.specs.declared.value.Value.{Value}
 use Rattle.theory_definitions.specs.Instance.{Text}
 use Rattle.theory_definitions.specs.Drafts.{Draft, Vocabularies, at_path}
 use Rattle.theory_definitions.specs.Resolving.{Entrance, Resolver}
-use Rattle.standard_subschemas.specs.SubschemaRules.{detected, identifier, is_known, root_draft, root_place, subschemas_of, without_fragment}
-use Rattle.standard_resolver.specs.ResolverDocuments.{HeldDocuments, Document, documents_of, value_in, vocabularies_in}
+use Rattle.standard_subschemas.specs.SubschemaRules.{identifier, is_known, root_place, subschemas_of, without_fragment}
+use Rattle.standard_resolver.specs.Dialects.{Reading, detected, draft_declared, reading_of}
+use Rattle.standard_resolver.specs.InForce.{vocabularies_at}
+use Rattle.standard_resolver.specs.ResolverDocuments.{HeldDocuments, Document, documents_of, value_in}
 use Rattle.standard_subschemas.specs.DocumentUris.{resolve_uri}
 use Rattle.standard_resolver.specs.DocumentResources.{Resource, Table, number_of, place_of_resource, table_for}
 use Rattle.standard_resolver.specs.DocumentStates.{Point, entered, root_of, same_point}
@@ -23,31 +25,35 @@ entrance_at resources (Some n) = elim (slice_get resources n) [ None ↦ None | 
 abbrev pub entrance : List Resource → Text → Option (Entrance Point)
 entrance resources uri = entrance_at resources (number_of (without_fragment uri) resources)
 
--- a resolver of documents in a default draft, with the vocabularies of each draft
-abbrev pub resolving_of : Draft → (Draft → Vocabularies) → List Document → Table → Resolver Point
-resolving_of default_draft vocabularies documents table = record {
+-- a resolver of documents, with the vocabularies that are in force in a state and a draft
+abbrev pub resolving_of : (Point → Draft → Vocabularies) → List Document → Table → Resolver Point
+resolving_of vocabularies documents table = record {
   same_state = same_point;
   value = value_in documents;
   root = entrance table.resources;
   lookup = looked_up table documents;
   lookup_recursive = looked_up_recursive table;
   in_subresource = λ s d p. entered table documents s d p (value_in documents p);
-  resolve_uri = λ s reference. resolve_uri table.rule s.base reference;
+  resolve_uri = λ s reference. resolve_uri table.reading.rule s.base reference;
   base_uri = λ s. s.base;
   resource_root = root_of table;
-  find_vocabularies = λ s d p. vocabularies d;
-  detect = detected;
-  draft_for = root_draft;
+  find_vocabularies = λ s d p. vocabularies s d;
+  detect = detected table.reading;
+  draft_for = draft_declared table.reading;
   id = identifier;
-  subresources_of = λ d p. map (at_path p) (subschemas_of table.rule d (value_in documents p));
-  is_known_keyword = λ d name. is_known table.rule d name;
+  subresources_of = λ d p. map (at_path p) (subschemas_of table.reading.rule d (value_in documents p));
+  is_known_keyword = λ d name. is_known table.reading.rule d name;
 }
 
+-- how the documents of a resolver are read
+abbrev pub reading_in : HeldDocuments → Reading
+reading_in r = reading_of r.rule r.root_draft r.default_draft (documents_of r)
+
 abbrev pub table_of : HeldDocuments → Table
-table_of r = table_for r.rule r.default_draft (documents_of r)
+table_of r = table_for (reading_in r) (documents_of r)
 
 abbrev pub document_resolving : HeldDocuments → Resolver Point
-document_resolving r = resolving_of r.default_draft (λ d. vocabularies_in d r.vocabularies) (documents_of r) (table_of r)
+document_resolving r = resolving_of (vocabularies_at r.vocabularies r.listed (table_of r)) (documents_of r) (table_of r)
 
 -- the root's URI, without a fragment
 abbrev pub base_of : HeldDocuments → Text

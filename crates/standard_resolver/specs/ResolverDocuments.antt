@@ -42,14 +42,18 @@ pub record GivenDocument : Type 0 where
   pub uri : Text
   pub value : Value
 
--- the contents of a resolver
+-- The contents of a resolver. `root_draft` is the draft of the root, if it is given. `listed` has, for
+-- each document, what its `$vocabulary` puts in force if it is a meta-schema; by the narrow rule it
+-- is empty.
 pub record HeldDocuments : Type 0 where
   pub rule : Rule
   pub uri : Text
   pub document : Value
   pub others : List GivenDocument
+  pub root_draft : Option Draft
   pub default_draft : Draft
   pub vocabularies : DraftVocabularies
+  pub listed : List (Option Vocabularies)
 
 abbrev pub document_of : GivenDocument → Document
 document_of d = record { uri = d.uri; value = view d.value }

@@ -9,39 +9,39 @@ use Rattle.theory_definitions.specs.Drafts.{Draft}
 use Rattle.theory_definitions.specs.Resolving.{Found}
 use Rattle.theory_definitions.specs.Parts.{Parts}
 use Rattle.theory_definitions.specs.Plan.{segments_length, start_of}
-use Rattle.standard_subschemas.specs.declared.rules.Rule.{Rule}
 use Rattle.standard_subschemas.specs.declared.rules.Rule.TheVariants.{Narrow}
-use Rattle.standard_subschemas.specs.SubschemaRules.{data_of, detected, fragment_of, identifier, without_fragment}
+use Rattle.standard_subschemas.specs.SubschemaRules.{data_of, fragment_of, identifier, without_fragment}
+use Rattle.standard_resolver.specs.Dialects.{Reading, detected}
 use Rattle.standard_resolver.specs.ResolverDocuments.{HeldDocuments, documents_of, value_in}
 use Rattle.standard_subschemas.specs.DocumentPointers.{path_of_pointer}
 use Rattle.standard_resolver.specs.DocumentResources.{Resource, Table, number_of, place_of_resource}
 use Rattle.standard_resolver.specs.DocumentStates.{Point, enter, resource_under, root_of}
 use Rattle.standard_resolver.specs.DocumentLookups.{is_subschema}
-use Rattle.standard_resolver.specs.ResolverAnswers.{document_resolving, table_of}
+use Rattle.standard_resolver.specs.ResolverAnswers.{document_resolving, reading_in, table_of}
 
 -- The path of the innermost subschema with an identifier that a path enters or ends at. The walk
 -- goes from a schema through subschemas: `since` leads from the last of them to the value reached
 -- so far, `gone` leads there from that schema, and `last` leads to the last subschema with an
 -- identifier.
-abbrev pub innermost_along : Rule → Draft → Data → Place → Data → Place → Place → Place → Place
-innermost_along rule draft schema since reached gone last [] = last
-innermost_along rule draft schema since reached gone last (step ∷ path) = elim (data_of (after_step step (a_value reached))) [
+abbrev pub innermost_along : Reading → Draft → Data → Place → Data → Place → Place → Place → Place
+innermost_along reading draft schema since reached gone last [] = last
+innermost_along reading draft schema since reached gone last (step ∷ path) = elim (data_of (after_step step (a_value reached))) [
   | None ↦ last
-  | Some below ↦ elim (is_subschema rule draft (since ++ step ∷ []) schema) [
-    | false ↦ innermost_along rule draft schema (since ++ step ∷ []) below (gone ++ step ∷ []) last path
-    | true ↦ innermost_along rule (detected draft below) below
-        [] below (gone ++ step ∷ []) (if is_some (identifier (detected draft below) below) then gone ++ step ∷ [] else last) path
+  | Some below ↦ elim (is_subschema reading.rule draft (since ++ step ∷ []) schema) [
+    | false ↦ innermost_along reading draft schema (since ++ step ∷ []) below (gone ++ step ∷ []) last path
+    | true ↦ innermost_along reading (detected reading draft below) below
+        [] below (gone ++ step ∷ []) (if is_some (identifier (detected reading draft below) below) then gone ++ step ∷ [] else last) path
   ]
 ]
 
 -- the same, counted from the root of a resource; the root itself if there is no such subschema
-abbrev pub innermost : Rule → Draft → Data → Option Place → Place
-innermost rule draft schema None = []
-innermost rule draft schema (Some path) = innermost_along rule draft schema [] schema [] [] path
+abbrev pub innermost : Reading → Draft → Data → Option Place → Place
+innermost reading draft schema None = []
+innermost reading draft schema (Some path) = innermost_along reading draft schema [] schema [] [] path
 
 abbrev pub innermost_in : HeldDocuments → Text → Resource → Place
 innermost_in r pointer x = elim (value_in (documents_of r) (place_of_resource x))
-    [ None ↦ [] | Some schema ↦ innermost r.rule x.draft schema (path_of_pointer pointer schema) ]
+    [ None ↦ [] | Some schema ↦ innermost (reading_in r) x.draft schema (path_of_pointer pointer schema) ]
 
 -- the same, for a pointer into the resource that a URI names
 abbrev pub innermost_under : HeldDocuments → Text → Text → Place

@@ -12,7 +12,7 @@ speaks rule true draft schema = is_some (identifier draft schema)
 speaks rule false draft schema = is_some (plain_name rule draft schema) || is_some (dynamic_name rule draft schema)
 
 abbrev pub speaking : Rule → Bool → Visited → Bool
-speaking rule everywhere v = speaks rule everywhere v.draft v.schema
+speaking rule everywhere v = speaks rule everywhere v.dialect.draft v.schema
 
 abbrev pub kept_if : Bool → Visited → List Visited
 kept_if true v = v ∷ []

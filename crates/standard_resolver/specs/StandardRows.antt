@@ -4,7 +4,7 @@
 -- and 6.2.2; RFC 6901, section 3; draft-07 Core, section 8.2; Core 2019-09, section 8.2; Core
 -- 2020-12, sections 8.2 and 10.3 and appendix B)
 use Rattle.std.specs.List.{list_all}
-use Rattle.std.specs.Prelude.{Bool, Err, List, Ok, Result, Some, [], codes, false, is_some, map, not, true, ℕ, ◌++◌, ◌||◌, ◌≡◌, ◌∷◌}
+use Rattle.std.specs.Prelude.{Bool, Err, List, None, Ok, Result, Some, [], codes, false, is_some, map, not, true, ℕ, ◌++◌, ◌||◌, ◌≡◌, ◌∷◌}
 use Rattle.serde_json.specs.Data.{array, boolean, item, member, no_items, no_members, object, string}
 use Rattle.theory_definitions.specs.Instance.{Place, Text, to_item, to_member}
 use Rattle.theory_definitions.specs.Drafts.{Draft, SchemaPlace, draft_2019_09, draft_2020_12, draft_4, draft_6, draft_7}
@@ -13,6 +13,7 @@ use Rattle.schema_drafts.specs.KeywordTable.{keyword_table, support_in}
 use Rattle.standard_subschemas.specs.declared.rules.Rule.TheVariants.{Standard}
 use Rattle.standard_subschemas.specs.SubschemaRules.{is_known, subschemas}
 use Rattle.standard_resolver.specs.ResolverAnswers.{entrance}
+use Rattle.standard_resolver.specs.Dialects.{reading_of}
 use Rattle.standard_resolver.specs.ResolverDocuments.{Document, value_in}
 use Rattle.standard_resolver.specs.DocumentResources.{Table, table_for}
 use Rattle.standard_resolver.specs.DocumentStates.{Point, entered}
@@ -23,7 +24,7 @@ abbrev pub in_these : Text → List ℕ → Point
 in_these uri ns = record { base = uri; entered = ns }
 
 abbrev pub table_in : Draft → List Document → Table
-table_in draft documents = table_for Standard draft documents
+table_in draft documents = table_for (reading_of Standard None draft documents) documents
 
 -- the target of a reference from a state
 abbrev pub leads : Draft → List Document → Point → Text → Bool → Result (Found Point) Text

@@ -4,7 +4,9 @@
 //! the program `engine_bench`.
 #![tactic(auto)]
 
+mod dialects;
 mod documents;
+mod in_force;
 mod names;
 mod on_way;
 mod places;
@@ -20,6 +22,6 @@ pub use crate::documents::Document;
 pub use crate::places::root_place;
 pub use crate::references::starts_at_the_innermost_resource;
 pub use crate::resolver::{DocumentResolver, DocumentState, StatePoint};
-pub use crate::rows::{standard_rows, worked_rows};
+pub use crate::rows::{dialect_rows, standard_rows, worked_rows};
 pub use crate::vocabularies::DraftVocabularies;
 pub use standard_subschemas::Rule;

@@ -15,6 +15,7 @@ ghost use Rattle.standard_subschemas.specs.SubschemaRules.{dynamic_name};
 ghost use Rattle.standard_resolver.specs.DocumentShowing.{Appends};
 ghost use Rattle.standard_resolver.specs.TargetWords.{first_dynamic_named, first_named};
 
+use crate::dialects::Reading;
 use crate::walk::{Visited, walked};
 use schema_drafts::Draft;
 use schema_reports::OutOfMemory;
@@ -88,9 +89,9 @@ fn dynamic_name_of(
     rule: Rule,
     visited: &Visited<'_>,
 ) -> Result<Option<String>, OutOfMemory>
-    ensures name { let v = visited_of visited.now in Shows (option_map string_bytes) result (dynamic_name rule v.draft v.schema) }
+    ensures name { let v = visited_of visited.now in Shows (option_map string_bytes) result (dynamic_name rule v.dialect.draft v.schema) }
 {
-    match dynamic_name(rule, visited.draft, visited.schema) {
+    match dynamic_name(rule, visited.dialect.draft, visited.schema) {
         Some(name) => Ok(Some(String::from_str(alloc, name)?)),
         None => Ok(None),
     }
@@ -109,7 +110,7 @@ fn push_name(
         names.push(Name {
             name,
             path: visited.path.clone()?,
-            draft: visited.draft,
+            draft: visited.dialect.draft,
             is_dynamic,
         })?;
     }
@@ -124,7 +125,7 @@ fn push_names(
 ) -> Result<(), OutOfMemory>
     ensures pushed { OnOk result (Appends name_of names.old.items names.new.items (names_at rule (visited_of visited.now))) }
 {
-    let name = schema_name(alloc, rule, visited.draft, visited.schema)?;
+    let name = schema_name(alloc, rule, visited.dialect.draft, visited.schema)?;
     push_name(visited, name, false, names)?;
     let dynamic = dynamic_name_of(alloc, rule, visited)?;
     push_name(visited, dynamic, true, names)
@@ -162,12 +163,25 @@ fn numbered(alloc: Global, names: Vec<Name>) -> Result<Names, OutOfMemory>
 /// # Errors
 ///
 /// Out of memory.
-pub fn names_in(alloc: Global, rule: Rule, root: &Visited<'_>) -> Result<Names, OutOfMemory>
-    ensures names { Yields result (names_in rule (visited_of root.now)) }
+pub fn names_in(
+    alloc: Global,
+    reading: &Reading<'_>,
+    root: &Visited<'_>,
+) -> Result<Names, OutOfMemory>
+    ensures names { Yields result (names_in reading.now (visited_of root.now)) }
 {
+    let rule = reading.rule();
     let mut names = Vec::new(alloc);
     push_names(alloc, rule, root, &mut names)?;
-    for visited in &walked(alloc, rule, false, &root.path, "", root.draft, root.schema)? {
+    for visited in &walked(
+        alloc,
+        reading,
+        false,
+        &root.path,
+        "",
+        root.dialect,
+        root.schema,
+    )? {
         push_names(alloc, rule, visited, &mut names)?;
     }
     numbered(alloc, names)

@@ -2,6 +2,7 @@
 //!
 //! A dynamic reference enters the resource that it leads into, which need not be the one that its
 //! URI names.
+ghost use Rattle.std.specs.Prelude.{◌≡◌, option_map, string_bytes};
 ghost use Rattle.serde_json.specs.View.{view};
 ghost use Rattle.theory_definitions.specs.Parts.{Parts};
 ghost use Rattle.standard_subschemas.specs.Refusals.{RefusesWith};
@@ -9,12 +10,14 @@ ghost use Rattle.standard_resolver.specs.DocumentLookups.{dynamic_in, first_dyna
 ghost use Rattle.standard_resolver.specs.DocumentLookups.{no_base, not_at_hand, nothing_there, recursive_in, target_by_fragment, target_of_name};
 ghost use Rattle.standard_resolver.specs.DocumentLookups.{target_named, target_root};
 ghost use Rattle.standard_resolver.specs.ResolverStart.{NarrowBasesStand, StartsAtInnermost};
+ghost use Rattle.standard_resolver.specs.Dialects.{text_or_none};
 ghost use Rattle.standard_resolver.specs.DocumentStates.{Point};
 ghost use Rattle.standard_resolver.specs.DocumentNameViews.{name_of};
 ghost use Rattle.standard_resolver.specs.DocumentResourceViews.{resource_of};
 ghost use Rattle.standard_resolver.specs.DocumentViews.{held, point_of};
 ghost use Rattle.standard_resolver.specs.TargetWords.{LeadsTo, ShowsTarget, ShowsTargetIf, arrived_from, target_pointed_at};
 
+use crate::dialects::unknown_meta;
 use crate::documents::Documents;
 use crate::names::Name;
 use crate::on_way::is_subschema;
@@ -25,7 +28,7 @@ use schema_reports::OutOfMemory;
 use schema_traits::{LookupError, SchemaPath, SchemaPlace, Target};
 use serde_json::Value;
 use standard_subschemas::{
-    Rule, decoded, detected, fragment_of, name_in_fragment, path_by_pointer, refusal, resolve_uri,
+    Rule, decoded, fragment_of, name_in_fragment, path_by_pointer, refusal, resolve_uri,
     value_below, without_fragment,
 };
 use std::alloc::Global;
@@ -66,7 +69,7 @@ fn not_at_hand(alloc: Global, rule: Rule, reference: &str, uri: &str) -> LookupE
 /// `before` is the state before the reference, and `state` that in the resource.
 fn arrived(
     alloc: Global,
-    resources: &Resources,
+    resources: &Resources<'_>,
     reference: &str,
     resource: &Resource,
     root: &Value,
@@ -91,7 +94,7 @@ fn arrived(
         place.path.push(step.clone()?)?;
         reached = below;
         if is_subschema(resources.rule(), draft, &since, schema) {
-            draft = detected(draft, below);
+            draft = resources.reading().detected(draft, below);
             state = entered_inner(alloc, resources, before, state, draft, &place, below)?;
             schema = below;
             since = SchemaPath::root(alloc);
@@ -100,14 +103,14 @@ fn arrived(
     Ok(Target {
         place,
         state,
-        draft: detected(draft, reached),
+        draft: resources.reading().detected(draft, reached),
     })
 }
 
 fn target_by_pointer(
     alloc: Global,
     documents: &Documents<'_>,
-    resources: &Resources,
+    resources: &Resources<'_>,
     reference: &str,
     resource: &Resource,
     before: &DocumentState,
@@ -152,7 +155,7 @@ fn target_named(
 /// Finds a dynamic name in the resource with a number.
 fn dynamic_in(
     alloc: Global,
-    resources: &Resources,
+    resources: &Resources<'_>,
     state: &DocumentState,
     name: &str,
     number: usize,
@@ -171,7 +174,7 @@ fn dynamic_in(
 /// Finds a dynamic name in the first entered resource that has it.
 fn first_dynamic(
     alloc: Global,
-    resources: &Resources,
+    resources: &Resources<'_>,
     state: &DocumentState,
     name: &str,
 ) -> Result<Option<Target<DocumentState>>, OutOfMemory>
@@ -190,7 +193,7 @@ fn first_dynamic(
 /// A dynamic reference to a dynamic name leads to the first entered resource that has the name.
 fn target_by_name(
     alloc: Global,
-    resources: &Resources,
+    resources: &Resources<'_>,
     followed: Followed<'_>,
     number: usize,
     resource: &Resource,
@@ -233,7 +236,7 @@ fn target_root(
 fn target_by_fragment(
     alloc: Global,
     documents: &Documents<'_>,
-    resources: &Resources,
+    resources: &Resources<'_>,
     followed: Followed<'_>,
     number: usize,
     resource: &Resource,
@@ -265,6 +268,16 @@ fn target_by_fragment(
     )
 }
 
+/// Returns the `$schema` that is in force in a resource, or nothing.
+fn named_in<'r>(resource: &'r Resource) -> &'r str
+    ensures named { result.now ≡ text_or_none (option_map string_bytes resource.now.named) }
+{
+    match &resource.named {
+        Some(uri) => uri.as_str(),
+        None => "",
+    }
+}
+
 /// Returns the target of a reference: its place, the state there, its draft.
 ///
 /// # Errors
@@ -273,10 +286,11 @@ fn target_by_fragment(
 /// - The reference cannot be resolved, leads to no resource, or leads to nothing in its resource.
 ///   The error names the reference, or the URI if the standard's rule finds no resource.
 /// - A subschema on the path has an identifier, but no resource with its URI begins there.
+/// - The `$schema` of the resource, or of a subschema with an identifier, is not known.
 pub fn looked_up(
     alloc: Global,
     documents: &Documents<'_>,
-    resources: &Resources,
+    resources: &Resources<'_>,
     state: &DocumentState,
     reference: &str,
     dynamic: bool,
@@ -291,6 +305,9 @@ pub fn looked_up(
     let Some(resource) = resources.get(number) else {
         return Err(not_at_hand(alloc, rule, reference, uri.as_str()));
     };
+    if resources.reading().is_refused(resource.draft) {
+        return Err(unknown_meta(alloc, named_in(resource)));
+    }
     let followed = Followed { reference, dynamic };
     let fragment = fragment_of(uri.as_str());
     target_by_fragment(
@@ -301,7 +318,7 @@ pub fn looked_up(
 /// Returns the root of the resource with a number, if it is recursive.
 fn recursive_in(
     alloc: Global,
-    resources: &Resources,
+    resources: &Resources<'_>,
     state: &DocumentState,
     number: usize,
 ) -> Result<Option<Target<DocumentState>>, OutOfMemory>
@@ -318,7 +335,7 @@ fn recursive_in(
 /// Returns the root of the first entered resource that is recursive.
 fn first_recursive(
     alloc: Global,
-    resources: &Resources,
+    resources: &Resources<'_>,
     state: &DocumentState,
 ) -> Result<Option<Target<DocumentState>>, OutOfMemory>
     ensures target { ShowsTargetIf result (first_recursive resources.now (point_of state.now) (point_of state.now).entered) }
@@ -347,7 +364,7 @@ fn no_base(alloc: Global, base: &str) -> LookupError
 /// Out of memory, or no resource has the base of the state.
 pub fn looked_up_recursive(
     alloc: Global,
-    resources: &Resources,
+    resources: &Resources<'_>,
     state: &DocumentState,
 ) -> Result<Target<DocumentState>, LookupError>
     ensures leads { LeadsTo result (looked_up_recursive resources.now (point_of state.now)) }

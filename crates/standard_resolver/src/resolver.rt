@@ -1,11 +1,13 @@
 //! The resolver of documents, and its states.
-ghost use Rattle.std.specs.Prelude.{◌≡◌, IfOk, map, string_bytes};
+ghost use Rattle.std.specs.Prelude.{◌≡◌, IfOk, None, map, option_map, string_bytes};
 ghost use Rattle.schema_drafts.specs.KeywordViews.{draft_of};
 ghost use Rattle.standard_resolver.specs.ResolverAnswers.{document_resolving, HasRoot, FindsRoot};
 ghost use Rattle.standard_resolver.specs.DocumentViews.{given_of};
-ghost use Rattle.standard_resolver.specs.ResolverHolds.{Customs, Defaults, Drafts, GoesBy, Holds, IsUnder, Others};
+ghost use Rattle.standard_resolver.specs.ResolverHolds.{Customs, Defaults, Drafts, GoesBy, Holds, IsUnder, ListsVocabularies, Others, RootsIn};
 
+use crate::dialects::reading_of;
 use crate::documents::{Document, Documents};
+use crate::in_force::{cloned, listed_here, lists_of};
 use crate::places::{root_place, value_inside};
 use crate::references::{looked_up, looked_up_recursive};
 use crate::resources::{Resources, resources_of};
@@ -16,8 +18,8 @@ use schema_reports::OutOfMemory;
 use schema_traits::{LookupError, PlacedSchema, Resolver, SchemaPath, SchemaPlace, Target};
 use serde_json::{Map, Value};
 use standard_subschemas::{
-    Rule, detected, identifier, is_known, names_draft_inside, refusal, resolve_uri, subschemas,
-    subschemas_placed, without_fragment,
+    Rule, identifier, is_known, names_draft_inside, resolve_uri, subschemas, subschemas_placed,
+    without_fragment,
 };
 use std::alloc::Global;
 use std::marker::Model;
@@ -57,17 +59,21 @@ impl Model for StatePoint {
 pub struct DocumentResolver<'a> {
     rule: Rule,
     documents: Documents<'a>,
+    root_draft: Option<Draft>,
     default_draft: Draft,
     vocabularies: DraftVocabularies,
-    resources: Resources,
+    // What the `$vocabulary` of each document puts in force; nothing by the narrow rule.
+    listed: Vec<Option<VocabularySet>>,
+    resources: Resources<'a>,
 }
 
 impl<'a> Model for DocumentResolver<'a> {
-    ghost use Rattle.std.specs.Prelude.{◌≡◌, map, string_bytes};
+    ghost use Rattle.std.specs.Prelude.{◌≡◌, map, option_map, string_bytes};
     ghost use Rattle.std.specs.Coded.{codes};
     ghost use Rattle.serde_json.specs.contracts.value.Value as value;
     ghost use Rattle.schema_drafts.specs.KeywordViews.{draft_of};
     ghost use Rattle.standard_resolver.specs.ResolverDocuments.{HeldDocuments};
+    ghost use Rattle.standard_resolver.specs.Dialects.{reading_of};
     ghost use Rattle.standard_resolver.specs.DocumentResources.{table_for};
     ghost use Rattle.standard_resolver.specs.DocumentViews.{given_of, held};
 
@@ -80,11 +86,15 @@ impl<'a> Model for DocumentResolver<'a> {
       uri = string_bytes r.documents.uri;
       document = r.documents.root.now;
       others = map given_of r.documents.others.items;
+      root_draft = option_map draft_of r.root_draft;
       default_draft = draft_of r.default_draft;
       vocabularies = r.vocabularies;
+      listed = r.listed.items;
     } };
 
-    ghost invariant = { λ r. r.resources ≡ table_for r.rule (draft_of r.default_draft) (held r.documents) };
+    ghost invariant = { λ r. r.resources
+        ≡ table_for (reading_of r.rule (option_map draft_of r.root_draft) (draft_of r.default_draft) (held r.documents))
+        (held r.documents) };
 }
 
 impl<'a> DocumentResolver<'a> {
@@ -92,9 +102,14 @@ impl<'a> DocumentResolver<'a> {
     ///
     /// Build with the root's URI as the base. By the narrow rule a document is found under the URI
     /// that it is supplied under; by the standard's it is also found under its root's identifier.
-    /// If several documents have the same URI, the first is found. A document, and the path to a
-    /// target, are read in `draft` unless a `$schema` says otherwise. The vocabularies are required
-    /// in every draft, beside the draft's own.
+    /// If several documents have the same URI, the first is found. A document is read in `draft`
+    /// unless its `$schema` says otherwise. The vocabularies are required in every draft, beside the
+    /// draft's own.
+    ///
+    /// By the standard's rule a `$schema` may name one of the documents. Then the draft is that of
+    /// this meta-schema, and what its `$vocabulary` lists is in force in place of the draft's
+    /// vocabularies. A resource whose meta-schema is not known is refused when a reference leads
+    /// there, or when it is entered.
     ///
     /// # Errors
     ///
@@ -111,8 +126,42 @@ impl<'a> DocumentResolver<'a> {
         ensures document { Holds result root.entry.value.now }
         ensures uri { IsUnder result (string_bytes root.entry.uri) }
         ensures others { Others result (map given_of others.entry.items) }
+        ensures root_draft { RootsIn result None }
         ensures draft { Defaults result (draft_of draft) }
         ensures drafts { Drafts result vocabularies }
+        ensures listed { ListsVocabularies result }
+        ensures custom { Customs result vocabularies }
+        ensures root_value { IfOk result (HasRoot root.entry.value.now) }
+        ensures root { IfOk result FindsRoot }
+    {
+        DocumentResolver::in_draft(alloc, rule, None, draft, root, others, vocabularies)
+    }
+
+    /// Makes a resolver whose root document is read in a draft, whatever its `$schema` says.
+    ///
+    /// Build with the same draft. The root then has the draft's own vocabularies. Without a root's
+    /// draft it is the resolver that `new` makes.
+    ///
+    /// # Errors
+    ///
+    /// Out of memory.
+    pub fn in_draft(
+        alloc: Global,
+        rule: Rule,
+        root_draft: Option<Draft>,
+        default_draft: Draft,
+        root: Document<'a>,
+        others: Vec<Document<'a>>,
+        vocabularies: VocabularySet,
+    ) -> Result<DocumentResolver<'a>, OutOfMemory>
+        ensures rule { GoesBy result rule }
+        ensures document { Holds result root.entry.value.now }
+        ensures uri { IsUnder result (string_bytes root.entry.uri) }
+        ensures others { Others result (map given_of others.entry.items) }
+        ensures root_draft { RootsIn result (option_map draft_of root_draft) }
+        ensures draft { Defaults result (draft_of default_draft) }
+        ensures drafts { Drafts result vocabularies }
+        ensures listed { ListsVocabularies result }
         ensures custom { Customs result vocabularies }
         ensures root_value { IfOk result (HasRoot root.entry.value.now) }
         ensures root { IfOk result FindsRoot }
@@ -122,12 +171,16 @@ impl<'a> DocumentResolver<'a> {
             root: root.value,
             others,
         };
-        let resources = resources_of(alloc, rule, draft, &documents)?;
+        let reading = reading_of(alloc, rule, root_draft, default_draft, &documents)?;
+        let listed = lists_of(alloc, &reading, &documents)?;
+        let resources = resources_of(alloc, reading, &documents)?;
         Ok(DocumentResolver {
             rule,
             documents,
-            default_draft: draft,
+            root_draft,
+            default_draft,
             vocabularies: DraftVocabularies::with_required(vocabularies)?,
+            listed,
             resources,
         })
     }
@@ -262,25 +315,22 @@ impl<'a> Resolver for DocumentResolver<'a> {
     fn find_vocabularies(
         &self,
         _alloc: Global,
-        _state: &DocumentState,
+        state: &DocumentState,
         draft: Draft,
         _place: &SchemaPlace,
     ) -> Result<VocabularySet, OutOfMemory> {
-        self.vocabularies.in_draft(draft)
+        match listed_here(&self.resources, self.listed.as_slice(), state, draft) {
+            Some(listed) => cloned(listed),
+            None => self.vocabularies.in_draft(draft),
+        }
     }
 
     fn detect(&self, draft: Draft, value: &Value) -> Draft {
-        detected(draft, value)
+        self.resources.reading().detected(draft, value)
     }
 
     fn draft_for(&self, alloc: Global, value: &Value) -> Result<Draft, LookupError> {
-        match detected(Draft::Draft202012, value) {
-            Draft::Unknown => {
-                let text = "this resolver does not know the draft of the schema";
-                Err(refusal(alloc, text, ""))
-            }
-            draft => Ok(draft),
-        }
+        self.resources.reading().draft_declared(alloc, value)
     }
 
     fn id<'v>(&self, draft: Draft, value: &'v Value) -> Option<&'v str> {

@@ -8,7 +8,7 @@
 //! the first.
 ghost use Rattle.std.specs.Prelude.{◌≡◌, ◌∷◌, [], flat_map, map, option_map, slice_get, string_bytes};
 ghost use Rattle.serde_json.specs.View.{view};
-ghost use Rattle.schema_drafts.specs.KeywordViews.{draft_of};
+ghost use Rattle.schema_traits.specs.Readings.{text_read};
 ghost use Rattle.schema_traits.specs.ResolverViews.{place_of};
 ghost use Rattle.standard_resolver.specs.DocumentResources as spec;
 ghost use Rattle.standard_resolver.specs.DocumentResources.{base_in, document_resources, embedded, embedded_resources};
@@ -20,6 +20,7 @@ ghost use Rattle.standard_resolver.specs.DocumentResourceViews.{resource_of};
 ghost use Rattle.standard_resolver.specs.DocumentViews.{held, visited_of, document_under};
 ghost use Rattle.schema_traits.specs.Showing.{Yields, Shows};
 
+use crate::dialects::Reading;
 use crate::documents::Documents;
 use crate::names::{Names, names_in};
 use crate::walk::{Visited, walked};
@@ -28,8 +29,8 @@ use schema_reports::OutOfMemory;
 use schema_traits::{SchemaPath, SchemaPlace};
 use serde_json::Value;
 use standard_subschemas::{
-    Rule, add_number, detected, identifier, normal_uri, own_uri, root_base, uri_of,
-    without_fragment, written_uri,
+    Rule, add_number, identifier, normal_uri, own_uri, root_base, uri_of, without_fragment,
+    written_uri,
 };
 use std::alloc::Global;
 use std::collections::HashMap;
@@ -37,8 +38,8 @@ use std::marker::Model;
 
 /// A resource: a document, or a subschema with an identifier.
 ///
-/// It is recursive if its root has `$recursiveAnchor: true`. `base` is the base inside it, and
-/// `path` leads to its root.
+/// It is recursive if its root has `$recursiveAnchor: true`. `base` is the base inside it, `path`
+/// leads to its root, and `named` is the `$schema` that is in force.
 #[derive(Drop)]
 pub struct Resource {
     pub uri: String,
@@ -46,6 +47,7 @@ pub struct Resource {
     pub document: usize,
     pub path: SchemaPath,
     pub draft: Draft,
+    pub named: Option<String>,
     pub is_recursive: bool,
     pub names: Names,
 }
@@ -66,18 +68,18 @@ impl Resource {
     }
 }
 
-/// The resources in documents, by number, and the rule for finding them.
+/// The resources in documents, by number, and how the documents are read.
 ///
-/// Contracts see the rule and the list.
+/// Contracts see the reading and the list.
 #[derive(Drop)]
-pub struct Resources {
-    rule: Rule,
+pub struct Resources<'a> {
+    reading: Reading<'a>,
     resources: Vec<Resource>,
     // Maps each URI to the number of its resource.
     numbers: HashMap<String, usize>,
 }
 
-impl Model for Resources {
+impl<'a> Model for Resources<'a> {
     ghost use Rattle.std.specs.Prelude.{map};
     ghost use Rattle.std.specs.HashMap.{get_by_text};
     ghost use Rattle.standard_subschemas.specs.DocumentKeys.{IsNumbered};
@@ -86,17 +88,24 @@ impl Model for Resources {
 
     ghost Value = { Table };
 
-    ghost view = { λ r. record { rule = r.rule; resources = map resource_of r.resources.items } };
+    ghost view = { λ r. record { reading = r.reading; resources = map resource_of r.resources.items } };
 
     ghost invariant = { λ r. IsNumbered (map resource_key (map resource_of r.resources.items)) (get_by_text r.numbers) };
 }
 
-impl Resources {
+impl<'a> Resources<'a> {
+    /// Returns how the documents are read.
+    pub fn reading(&self) -> &Reading<'a>
+        ensures reading { result.now ≡ self.now.reading }
+    {
+        &self.reading
+    }
+
     /// Returns the rule by which the resources were found.
     pub fn rule(&self) -> Rule
-        ensures rule { result ≡ self.now.rule }
+        ensures rule { result ≡ self.now.reading.rule }
     {
-        self.rule
+        self.reading.rule()
     }
 
     /// Returns the number of the resource with a URI.
@@ -146,13 +155,13 @@ fn is_recursive(schema: &Value) -> bool
 
 fn resource_of(
     alloc: Global,
-    rule: Rule,
+    reading: &Reading<'_>,
     uri: String,
     base: String,
     document: usize,
     root: &Visited<'_>,
 ) -> Result<Resource, OutOfMemory>
-    ensures resource { Shows resource_of result (spec.resource_of rule (string_bytes uri) (string_bytes base) document
+    ensures resource { Shows resource_of result (spec.resource_of reading.now (string_bytes uri) (string_bytes base) document
         (visited_of root.now)) }
 {
     Ok(Resource {
@@ -160,10 +169,20 @@ fn resource_of(
         base,
         document,
         path: root.path.clone()?,
-        draft: root.draft,
+        draft: root.dialect.draft,
+        named: copied(alloc, root.dialect.named)?,
         is_recursive: is_recursive(root.schema),
-        names: names_in(alloc, rule, root)?,
+        names: names_in(alloc, reading, root)?,
     })
+}
+
+fn copied(alloc: Global, text: Option<&str>) -> Result<Option<String>, OutOfMemory>
+    ensures text { Shows (option_map string_bytes) result (text_read text.entry) }
+{
+    match text {
+        Some(text) => Ok(Some(String::from_str(alloc, text)?)),
+        None => Ok(None),
+    }
 }
 
 /// The resources gathered so far, and the map from URIs to their numbers.
@@ -197,23 +216,23 @@ fn add_resource(
 /// Adds the resource of a schema, if its identifier yields a URI.
 fn add_identified(
     alloc: Global,
-    rule: Rule,
+    reading: &Reading<'_>,
     document: usize,
     visited: &Visited<'_>,
     gathered: &mut Gathered,
 ) -> Result<(), OutOfMemory>
-    ensures added { Gathers result gathered.old gathered.new (identified rule document (visited_of visited.now)) }
+    ensures added { Gathers result gathered.old gathered.new (identified reading.now document (visited_of visited.now)) }
 {
     let own = uri_of(
         alloc,
-        rule,
+        reading.rule(),
         visited.base.as_str(),
-        visited.draft,
+        visited.dialect.draft,
         visited.schema,
     )?;
     if let Some(uri) = own {
         let base = String::from_str(alloc, uri.as_str())?;
-        let resource = resource_of(alloc, rule, uri, base, document, visited)?;
+        let resource = resource_of(alloc, reading, uri, base, document, visited)?;
         add_resource(alloc, gathered, resource)?;
     }
     Ok(())
@@ -222,40 +241,40 @@ fn add_identified(
 /// Adds the resource that begins with a schema under a URI, unless an earlier one has it.
 fn add_under(
     alloc: Global,
-    rule: Rule,
+    reading: &Reading<'_>,
     uri: String,
     base: String,
     document: usize,
     root: &Visited<'_>,
     gathered: &mut Gathered,
 ) -> Result<(), OutOfMemory>
-    ensures added { Gathers result gathered.old gathered.new (spec.resource_of rule (string_bytes uri) (string_bytes base) document
-        (visited_of root.now) ∷ []) }
+    ensures added { Gathers result gathered.old gathered.new (spec.resource_of reading.now (string_bytes uri) (string_bytes base)
+        document (visited_of root.now) ∷ []) }
 {
     if gathered.numbers.get(uri.as_str()).is_some() {
         return Ok(());
     }
-    let resource = resource_of(alloc, rule, uri, base, document, root)?;
+    let resource = resource_of(alloc, reading, uri, base, document, root)?;
     add_resource(alloc, gathered, resource)
 }
 
 /// Adds a document's root under its identifier in the case in which it is written.
 fn add_written_root(
     alloc: Global,
+    reading: &Reading<'_>,
     document: usize,
     root: &Visited<'_>,
     gathered: &mut Gathered,
 ) -> Result<(), OutOfMemory>
-    ensures added { Gathers result gathered.old gathered.new (written_root document (visited_of root.now)) }
+    ensures added { Gathers result gathered.old gathered.new (written_root reading.now document (visited_of root.now)) }
 {
-    let Some(id) = identifier(root.draft, root.schema) else {
+    let Some(id) = identifier(root.dialect.draft, root.schema) else {
         return Ok(());
     };
-    let rule = Rule::Standard;
     let around = root.base.as_str();
     let uri = written_uri(alloc, around, id)?;
-    match own_uri(alloc, rule, around, id)? {
-        Some(base) => add_under(alloc, rule, uri, base, document, root, gathered),
+    match own_uri(alloc, Rule::Standard, around, id)? {
+        Some(base) => add_under(alloc, reading, uri, base, document, root, gathered),
         None => Ok(()),
     }
 }
@@ -263,18 +282,18 @@ fn add_written_root(
 /// Adds a document's root under its identifier, by the standard's rule only.
 fn add_identified_root(
     alloc: Global,
-    rule: Rule,
+    reading: &Reading<'_>,
     document: usize,
     root: &Visited<'_>,
     gathered: &mut Gathered,
 ) -> Result<(), OutOfMemory>
-    ensures added { Gathers result gathered.old gathered.new (identified_root rule document (visited_of root.now)) }
+    ensures added { Gathers result gathered.old gathered.new (identified_root reading.now document (visited_of root.now)) }
 {
-    match rule {
+    match reading.rule() {
         Rule::Narrow => Ok(()),
         Rule::Standard => {
-            add_identified(alloc, Rule::Standard, document, root, gathered)?;
-            add_written_root(alloc, document, root, gathered)?;
+            add_identified(alloc, reading, document, root, gathered)?;
+            add_written_root(alloc, reading, document, root, gathered)?;
             Ok(())
         }
     }
@@ -283,16 +302,17 @@ fn add_identified_root(
 /// Returns a document's root as a visited schema.
 fn root_visited<'a>(
     alloc: Global,
-    draft: Draft,
+    reading: &Reading<'_>,
+    document: usize,
     uri: &str,
     value: &'a Value,
 ) -> Result<Visited<'a>, OutOfMemory>
-    ensures root { Shows visited_of result (root_visited (draft_of draft) (document_under uri.now value.now)) }
+    ensures root { Shows visited_of result (root_visited reading.now document (document_under uri.now value.now)) }
 {
     Ok(Visited {
         path: SchemaPath::root(alloc),
         base: String::from_str(alloc, without_fragment(uri))?,
-        draft: detected(draft, value),
+        dialect: reading.root_dialect(document, value),
         schema: value,
     })
 }
@@ -300,167 +320,158 @@ fn root_visited<'a>(
 /// Adds the resources of the schemas that a walk visited.
 fn add_all_identified(
     alloc: Global,
-    rule: Rule,
+    reading: &Reading<'_>,
     document: usize,
     all: &[Visited<'_>],
     gathered: &mut Gathered,
 ) -> Result<(), OutOfMemory>
-    ensures added { Gathers result gathered.old gathered.new (flat_map (identified rule document) (map visited_of all.now)) }
+    ensures added { Gathers result gathered.old gathered.new (flat_map (identified reading.now document) (map visited_of all.now)) }
 {
     for visited in all {
-        add_identified(alloc, rule, document, visited, gathered)?;
+        add_identified(alloc, reading, document, visited, gathered)?;
     }
     Ok(())
 }
 
 fn add_embedded(
     alloc: Global,
-    rule: Rule,
-    draft: Draft,
+    reading: &Reading<'_>,
     document: usize,
     uri: &str,
     value: &Value,
     gathered: &mut Gathered,
 ) -> Result<(), OutOfMemory>
-    ensures added { Gathers result gathered.old gathered.new (embedded rule (draft_of draft) document (document_under uri.now
-        value.now)) }
+    ensures added { Gathers result gathered.old gathered.new (embedded reading.now document (document_under uri.now value.now)) }
 {
-    let root = root_visited(alloc, draft, uri, value)?;
-    let base = root_base(alloc, rule, uri, root.draft, value)?;
+    let root = root_visited(alloc, reading, document, uri, value)?;
+    let base = root_base(alloc, reading.rule(), uri, root.dialect.draft, value)?;
     let all = walked(
         alloc,
-        rule,
+        reading,
         true,
         &root.path,
         base.as_str(),
-        root.draft,
+        root.dialect,
         value,
     )?;
-    add_identified_root(alloc, rule, document, &root, gathered)?;
-    add_all_identified(alloc, rule, document, all.as_slice(), gathered)?;
+    add_identified_root(alloc, reading, document, &root, gathered)?;
+    add_all_identified(alloc, reading, document, all.as_slice(), gathered)?;
     Ok(())
 }
 
 /// Adds a document that is supplied under a URI, to be found under `own`.
 fn add_document_as(
     alloc: Global,
-    rule: Rule,
-    draft: Draft,
+    reading: &Reading<'_>,
     document: usize,
     own: String,
     uri: &str,
     value: &Value,
     gathered: &mut Gathered,
 ) -> Result<(), OutOfMemory>
-    ensures added { let d = document_under uri.now value.now in Gathers result gathered.old gathered.new (spec.resource_of rule
-        (string_bytes own) (base_in rule (draft_of draft) d) document (root_visited (draft_of draft) d) ∷ []) }
+    ensures added { let d = document_under uri.now value.now in Gathers result gathered.old gathered.new (spec.resource_of reading.now
+        (string_bytes own) (base_in reading.now document d) document (root_visited reading.now document d) ∷ []) }
 {
-    let root = root_visited(alloc, draft, uri, value)?;
-    let base = root_base(alloc, rule, uri, root.draft, value)?;
-    add_under(alloc, rule, own, base, document, &root, gathered)?;
+    let root = root_visited(alloc, reading, document, uri, value)?;
+    let base = root_base(alloc, reading.rule(), uri, root.dialect.draft, value)?;
+    add_under(alloc, reading, own, base, document, &root, gathered)?;
     Ok(())
 }
 
 /// Adds a document under its URI in normal form, by the standard's rule only.
 fn add_normal(
     alloc: Global,
-    rule: Rule,
-    draft: Draft,
+    reading: &Reading<'_>,
     document: usize,
     uri: &str,
     value: &Value,
     gathered: &mut Gathered,
 ) -> Result<(), OutOfMemory>
-    ensures added { Gathers result gathered.old gathered.new (normal_resource rule (draft_of draft) document (document_under uri.now
+    ensures added { Gathers result gathered.old gathered.new (normal_resource reading.now document (document_under uri.now
         value.now)) }
 {
-    match rule {
+    match reading.rule() {
         Rule::Narrow => Ok(()),
         Rule::Standard => {
             let own = normal_uri(alloc, without_fragment(uri))?;
-            let rule = Rule::Standard;
-            add_document_as(alloc, rule, draft, document, own, uri, value, gathered)
+            add_document_as(alloc, reading, document, own, uri, value, gathered)
         }
     }
 }
 
 fn add_document(
     alloc: Global,
-    rule: Rule,
-    draft: Draft,
+    reading: &Reading<'_>,
     document: usize,
     uri: &str,
     value: &Value,
     gathered: &mut Gathered,
 ) -> Result<(), OutOfMemory>
-    ensures added { Gathers result gathered.old gathered.new (whole_document rule (draft_of draft) document (document_under uri.now
+    ensures added { Gathers result gathered.old gathered.new (whole_document reading.now document (document_under uri.now
         value.now)) }
 {
     let own = String::from_str(alloc, without_fragment(uri))?;
-    add_document_as(alloc, rule, draft, document, own, uri, value, gathered)?;
-    add_normal(alloc, rule, draft, document, uri, value, gathered)?;
+    add_document_as(alloc, reading, document, own, uri, value, gathered)?;
+    add_normal(alloc, reading, document, uri, value, gathered)?;
     Ok(())
 }
 
 fn add_documents(
     alloc: Global,
-    rule: Rule,
-    draft: Draft,
+    reading: &Reading<'_>,
     documents: &Documents<'_>,
     gathered: &mut Gathered,
 ) -> Result<(), OutOfMemory>
-    ensures added { Gathers result gathered.old gathered.new (document_resources rule (draft_of draft) 0 (held documents.now)) }
+    ensures added { Gathers result gathered.old gathered.new (document_resources reading.now 0 (held documents.now)) }
 {
     let uri = documents.uri.as_str();
-    add_document(alloc, rule, draft, 0, uri, documents.root, gathered)?;
+    add_document(alloc, reading, 0, uri, documents.root, gathered)?;
     for (i, other) in documents.others.iter().enumerate() {
         let uri = other.uri.as_str();
-        add_document(alloc, rule, draft, i + 1, uri, other.value, gathered)?;
+        add_document(alloc, reading, i + 1, uri, other.value, gathered)?;
     }
     Ok(())
 }
 
 fn add_all_embedded(
     alloc: Global,
-    rule: Rule,
-    draft: Draft,
+    reading: &Reading<'_>,
     documents: &Documents<'_>,
     gathered: &mut Gathered,
 ) -> Result<(), OutOfMemory>
-    ensures added { Gathers result gathered.old gathered.new (embedded_resources rule (draft_of draft) 0 (held documents.now)) }
+    ensures added { Gathers result gathered.old gathered.new (embedded_resources reading.now 0 (held documents.now)) }
 {
     let uri = documents.uri.as_str();
-    add_embedded(alloc, rule, draft, 0, uri, documents.root, gathered)?;
+    add_embedded(alloc, reading, 0, uri, documents.root, gathered)?;
     for (i, other) in documents.others.iter().enumerate() {
         let uri = other.uri.as_str();
-        add_embedded(alloc, rule, draft, i + 1, uri, other.value, gathered)?;
+        add_embedded(alloc, reading, i + 1, uri, other.value, gathered)?;
     }
     Ok(())
 }
 
-/// Returns the resources in documents, by a rule.
+/// Returns the resources in documents, by how these are read.
 ///
 /// Each document is walked once for embedded resources, and each resource once more for its names.
 ///
 /// # Errors
 ///
 /// Out of memory.
-pub fn resources_of(
+pub fn resources_of<'a>(
     alloc: Global,
-    rule: Rule,
-    draft: Draft,
+    reading: Reading<'a>,
     documents: &Documents<'_>,
-) -> Result<Resources, OutOfMemory>
-    ensures resources { Yields result (table_for rule (draft_of draft) (held documents.now)) }
+) -> Result<Resources<'a>, OutOfMemory>
+    ensures resources { Yields result (table_for reading.entry (held documents.now)) }
 {
     let mut gathered = Gathered {
         resources: Vec::new(alloc),
         numbers: HashMap::new(alloc),
     };
-    add_documents(alloc, rule, draft, documents, &mut gathered)?;
-    add_all_embedded(alloc, rule, draft, documents, &mut gathered)?;
+    add_documents(alloc, &reading, documents, &mut gathered)?;
+    add_all_embedded(alloc, &reading, documents, &mut gathered)?;
     Ok(Resources {
-        rule,
+        reading,
         resources: gathered.resources,
         numbers: gathered.numbers,
     })

@@ -1,4 +1,5 @@
 //! Worked rows: the targets of references in small documents.
+ghost use Rattle.standard_resolver.specs.DialectRows.{DialectRowsHold};
 ghost use Rattle.standard_resolver.specs.DocumentRows.{RowsHold};
 ghost use Rattle.standard_resolver.specs.StandardRows.{StandardRowsHold};
 
@@ -15,4 +16,11 @@ pub fn worked_rows()
 /// The function does nothing.
 pub fn standard_rows()
     ensures rows { StandardRowsHold }
+{}
+
+/// A law: the worked rows of dialects by the standard's rule hold.
+///
+/// The function does nothing.
+pub fn dialect_rows()
+    ensures rows { DialectRowsHold }
 {}

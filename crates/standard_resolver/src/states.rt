@@ -5,6 +5,7 @@ ghost use Rattle.serde_json.specs.View.{view};
 ghost use Rattle.schema_drafts.specs.KeywordViews.{draft_of};
 ghost use Rattle.schema_traits.specs.ResolverViews.{place_of};
 ghost use Rattle.standard_subschemas.specs.Refusals.{RefusesWith};
+ghost use Rattle.standard_resolver.specs.Dialects.{schema_of, text_or_none, unknown_meta};
 ghost use Rattle.standard_resolver.specs.DocumentStates.{enter, entered, entered_below, entered_by, entered_inner, entered_root};
 ghost use Rattle.standard_resolver.specs.DocumentStates.{no_identified};
 ghost use Rattle.standard_resolver.specs.DocumentStates.{uri_of_document};
@@ -12,6 +13,7 @@ ghost use Rattle.standard_resolver.specs.DocumentViews.{held, point_of};
 ghost use Rattle.schema_traits.specs.Readings.{value_read};
 ghost use Rattle.schema_traits.specs.Showing.{Shows, Agrees};
 
+use crate::dialects::unknown_meta;
 use crate::documents::Documents;
 use crate::resolver::DocumentState;
 use crate::resources::Resources;
@@ -19,7 +21,7 @@ use schema_drafts::Draft;
 use schema_reports::OutOfMemory;
 use schema_traits::{LookupError, SchemaPlace};
 use serde_json::Value;
-use standard_subschemas::{Rule, identifier, own_uri, refusal, root_base};
+use standard_subschemas::{Rule, identifier, own_uri, refusal, root_base, text_member};
 use std::alloc::Global;
 use std::rc::{Rc, RcStr};
 
@@ -69,12 +71,19 @@ fn no_identified(alloc: Global, id: &str) -> LookupError
     refusal(alloc, text, id)
 }
 
+/// Makes the error of a schema whose `$schema` is not known.
+fn unknown_schema(alloc: Global, schema: &Value) -> LookupError
+    ensures refused { RefusesWith (unknown_meta (text_or_none (schema_of (view schema.now)))) result }
+{
+    unknown_meta(alloc, text_member(schema, "$schema").unwrap_or(""))
+}
+
 /// Enters the resource with a URI, if it begins at a place.
 ///
 /// `id` is the identifier of the schema there.
 fn entered_by(
     alloc: Global,
-    resources: &Resources,
+    resources: &Resources<'_>,
     place: &SchemaPlace,
     id: &str,
     state: &DocumentState,
@@ -97,10 +106,10 @@ fn entered_by(
 /// # Errors
 ///
 /// Out of memory, or the schema has an identifier, but no resource with its URI begins at the
-/// place.
+/// place, or its `$schema` is not known.
 pub fn entered_below(
     alloc: Global,
-    resources: &Resources,
+    resources: &Resources<'_>,
     state: DocumentState,
     draft: Draft,
     place: &SchemaPlace,
@@ -109,13 +118,14 @@ pub fn entered_below(
     ensures entered { Agrees point_of result (entered_below resources.now (point_of state) (draft_of draft)
         (place_of place.now) (view schema.now)) }
 {
-    match identifier(draft, schema) {
-        Some(id) => {
-            let uri = own_uri(alloc, resources.rule(), state.base.as_str(), id)?;
-            entered_by(alloc, resources, place, id, &state, uri)
-        }
-        None => Ok(state),
+    let Some(id) = identifier(draft, schema) else {
+        return Ok(state);
+    };
+    if resources.reading().is_refused(draft) {
+        return Err(unknown_schema(alloc, schema));
     }
+    let uri = own_uri(alloc, resources.rule(), state.base.as_str(), id)?;
+    entered_by(alloc, resources, place, id, &state, uri)
 }
 
 /// Returns the state inside a schema to which a pointer passes.
@@ -126,10 +136,10 @@ pub fn entered_below(
 /// # Errors
 ///
 /// Out of memory, or the schema has an identifier, but no resource with its URI begins at the
-/// place.
+/// place, or its `$schema` is not known.
 pub fn entered_inner(
     alloc: Global,
-    resources: &Resources,
+    resources: &Resources<'_>,
     before: &DocumentState,
     state: DocumentState,
     draft: Draft,
@@ -142,6 +152,9 @@ pub fn entered_inner(
     let Some(id) = identifier(draft, schema) else {
         return Ok(state);
     };
+    if resources.reading().is_refused(draft) {
+        return Err(unknown_schema(alloc, schema));
+    }
     let rule = resources.rule();
     let uri = own_uri(alloc, rule, state.base.as_str(), id)?;
     match rule {
@@ -171,7 +184,7 @@ fn uri_of_document(
 fn entered_root(
     alloc: Global,
     documents: &Documents<'_>,
-    resources: &Resources,
+    resources: &Resources<'_>,
     state: DocumentState,
     draft: Draft,
     place: &SchemaPlace,
@@ -180,14 +193,15 @@ fn entered_root(
     ensures entered { Agrees point_of result (entered_root resources.now (held documents.now) (point_of state)
         (draft_of draft) (place_of place.now) (view schema.now)) }
 {
-    match identifier(draft, schema) {
-        Some(id) => {
-            let rule = resources.rule();
-            let uri = uri_of_document(alloc, rule, documents, place.document, draft, schema)?;
-            entered_by(alloc, resources, place, id, &state, uri)
-        }
-        None => Ok(state),
+    let Some(id) = identifier(draft, schema) else {
+        return Ok(state);
+    };
+    if resources.reading().is_refused(draft) {
+        return Err(unknown_schema(alloc, schema));
     }
+    let rule = resources.rule();
+    let uri = uri_of_document(alloc, rule, documents, place.document, draft, schema)?;
+    entered_by(alloc, resources, place, id, &state, uri)
 }
 
 /// Returns the state inside the value at a place.
@@ -195,11 +209,11 @@ fn entered_root(
 /// # Errors
 ///
 /// Out of memory, or the schema has an identifier, but no resource with its URI begins at the
-/// place.
+/// place, or its `$schema` is not known.
 pub fn entered(
     alloc: Global,
     documents: &Documents<'_>,
-    resources: &Resources,
+    resources: &Resources<'_>,
     state: &DocumentState,
     draft: Draft,
     place: &SchemaPlace,

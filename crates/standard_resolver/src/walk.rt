@@ -6,6 +6,7 @@ ghost use Rattle.std.specs.Prelude.{◌≡◌, OnOk};
 ghost use Rattle.std.specs.List.{filter};
 ghost use Rattle.serde_json.specs.View.{view};
 ghost use Rattle.schema_drafts.specs.KeywordViews.{draft_of};
+ghost use Rattle.standard_resolver.specs.DialectViews.{dialect_of};
 ghost use Rattle.standard_resolver.specs.DocumentResources.{goes_into, walked};
 ghost use Rattle.standard_resolver.specs.ResourceSpeaking.{speaking, speaks, kept};
 ghost use Rattle.standard_resolver.specs.DocumentViews.{visited_of, path_over};
@@ -13,22 +14,23 @@ ghost use Rattle.schema_traits.specs.Showing.{Yields};
 ghost use Rattle.standard_resolver.specs.DocumentShowing.{Appends};
 ghost use Rattle.standard_resolver.specs.WalkWords.{AddsSpeaking, visited_over, ListsVisited};
 
+use crate::dialects::{Dialect, Reading};
 use schema_drafts::Draft;
 use schema_reports::OutOfMemory;
 use schema_traits::SchemaPath;
 use serde_json::Value;
 use standard_subschemas::{
-    FoundSchema, Rule, detected, dynamic_name, identifier, is_plain, or_base, plain_name,
-    subschemas_found, uri_of,
+    FoundSchema, Rule, dynamic_name, identifier, is_plain, or_base, plain_name, subschemas_found,
+    uri_of,
 };
 use std::alloc::Global;
 
-/// A visited schema, with its path, the base around it, and its draft.
+/// A visited schema, with its path, the base around it, and its dialect.
 #[derive(Drop)]
 pub struct Visited<'a> {
     pub path: SchemaPath,
     pub base: String,
-    pub draft: Draft,
+    pub dialect: Dialect<'a>,
     pub schema: &'a Value,
 }
 
@@ -54,15 +56,6 @@ fn speaks(rule: Rule, everywhere: bool, draft: Draft, schema: &Value) -> bool
     }
 }
 
-/// The aim of a walk: identifiers or names.
-///
-/// It is identifiers if the walk goes into all schemas, and names otherwise.
-#[derive(Clone, Copy)]
-struct Aim {
-    rule: Rule,
-    everywhere: bool,
-}
-
 /// Returns the path of a schema, continued from subschema to subschema.
 fn path_over(
     alloc: Global,
@@ -81,22 +74,23 @@ fn path_over(
 /// Adds the visited schema, if it has what the walk looks for.
 fn keep<'a>(
     alloc: Global,
-    aim: Aim,
+    reading: &Reading<'_>,
+    everywhere: bool,
     path: &SchemaPath,
     way: &[FoundSchema<'a>],
     base: &str,
-    draft: Draft,
+    dialect: Dialect<'a>,
     schema: &'a Value,
     visited: &mut Vec<Visited<'a>>,
 ) -> Result<(), OutOfMemory>
-    ensures kept { OnOk result (Appends visited_of visited.old.items visited.new.items (kept aim.rule aim.everywhere (visited_over
-        path.now way.now base.now draft schema.now))) }
+    ensures kept { OnOk result (Appends visited_of visited.old.items visited.new.items (kept reading.now.rule
+        everywhere (visited_over path.now way.now base.now dialect.entry schema.now))) }
 {
-    if speaks(aim.rule, aim.everywhere, draft, schema) {
+    if speaks(reading.rule(), everywhere, dialect.draft, schema) {
         visited.push(Visited {
             path: path_over(alloc, path, way)?,
             base: String::from_str(alloc, base)?,
-            draft,
+            dialect,
             schema,
         })?;
     }
@@ -108,33 +102,39 @@ fn keep<'a>(
 /// The schema is at the path, continued along `way`, and `base` is the base inside it.
 fn visit_below<'a>(
     alloc: Global,
-    aim: Aim,
+    reading: &Reading<'_>,
+    everywhere: bool,
     path: &SchemaPath,
     way: &mut Vec<FoundSchema<'a>>,
     base: &str,
-    draft: Draft,
+    dialect: Dialect<'a>,
     schema: &'a Value,
     visited: &mut Vec<Visited<'a>>,
 ) -> Result<(), OutOfMemory>
     ensures way { OnOk result (way.new.items ≡ way.old.items) }
-    ensures visited { OnOk result (AddsSpeaking aim.rule aim.everywhere (path_over path.now way.old.items) base.now draft schema.now
-        visited.old.items visited.new.items) }
+    ensures visited { OnOk result (AddsSpeaking reading.now everywhere (path_over path.now way.old.items) base.now
+        dialect.entry schema.now visited.old.items visited.new.items) }
 {
-    for found in &subschemas_found(alloc, aim.rule, draft, schema)? {
+    let rule = reading.rule();
+    for found in &subschemas_found(alloc, rule, dialect.draft, schema)? {
         let below = found.schema;
-        if is_plain(aim.rule, below) {
+        if is_plain(rule, below) {
             continue;
         }
-        let draft = detected(draft, below);
-        if !goes_into(aim.everywhere, draft, below) {
+        let dialect = reading.dialect_inside(dialect, below);
+        if !goes_into(everywhere, dialect.draft, below) {
             continue;
         }
         way.push(*found)?;
         let on_way = way.as_slice();
-        keep(alloc, aim, path, on_way, base, draft, below, visited)?;
-        let own = uri_of(alloc, aim.rule, base, draft, below)?;
+        keep(
+            alloc, reading, everywhere, path, on_way, base, dialect, below, visited,
+        )?;
+        let own = uri_of(alloc, rule, base, dialect.draft, below)?;
         let inside = or_base(&own, base);
-        visit_below(alloc, aim, path, way, inside, draft, below, visited)?;
+        visit_below(
+            alloc, reading, everywhere, path, way, inside, dialect, below, visited,
+        )?;
         way.pop();
     }
     Ok(())
@@ -150,26 +150,26 @@ fn visit_below<'a>(
 /// Out of memory.
 pub fn walked<'a>(
     alloc: Global,
-    rule: Rule,
+    reading: &Reading<'_>,
     everywhere: bool,
     path: &SchemaPath,
     base: &str,
-    draft: Draft,
+    dialect: Dialect<'a>,
     schema: &'a Value,
 ) -> Result<Vec<Visited<'a>>, OutOfMemory>
-    ensures walked { ListsVisited result (filter (speaking rule everywhere) (walked rule everywhere path.now base.now (draft_of draft)
-        (view schema.now))) }
+    ensures walked { ListsVisited result (filter (speaking reading.now.rule everywhere) (walked reading.now everywhere path.now base.now
+        (dialect_of dialect.entry) (view schema.now))) }
 {
     let mut visited = Vec::new(alloc);
     let mut way = Vec::new(alloc);
-    let aim = Aim { rule, everywhere };
     visit_below(
         alloc,
-        aim,
+        reading,
+        everywhere,
         path,
         &mut way,
         base,
-        draft,
+        dialect,
         schema,
         &mut visited,
     )?;

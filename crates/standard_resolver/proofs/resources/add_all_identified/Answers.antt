@@ -13,7 +13,7 @@ loop-visited-preserved c =
     let items = c.args.all.now in
     let i = c.loop-visited.visited-index in
     let v = c.visited-item.result in
-    let f = identified c.args.rule c.args.document in
+    let f = identified c.args.reading.now c.args.document in
     let within : i < length items = c.loop-visited-test.true in
     subst (λ (rs : List Resource). Adds rs c.args.gathered.now c.add_identified.new.gathered)
     (one_more f visited_of items i v within c.visited-item.is)
@@ -23,7 +23,7 @@ loop-visited-preserved c =
 pub returns : goal.returns
 returns c =
     let items = c.args.all.now in
-    let f = identified c.args.rule c.args.document in
+    let f = identified c.args.reading.now c.args.document in
     let all = ap (λ (vs : List code.Visited). flat_map f (map visited_of vs))
     (take_all c.loop-visited.visited-index items c.loop-visited-test.false) in
     record { added = subst (λ (rs : List Resource). Adds rs c.args.gathered.now c.loop-visited.gathered) all c.loop-visited.invariant }

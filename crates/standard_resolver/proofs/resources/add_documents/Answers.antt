@@ -1,7 +1,6 @@
 use Rattle.std.proofs.Common.{List, ap, arith, get_or, length, string_bytes, subst, ◌+◌, ◌<◌, ◌≡◌, ◌≤◌, ◌∙◌}
 use Rattle.serde_json.specs.View.{view}
 use Rattle.theory_definitions.specs.Instance.{Text}
-use Rattle.schema_drafts.specs.KeywordViews.{draft_of}
 use Rattle.standard_resolver.specs.declared.documents as code
 use Rattle.standard_resolver.specs.ResolverDocuments.{Document, document_of}
 use Rattle.standard_resolver.specs.DocumentResources.{whole_document}
@@ -14,9 +13,9 @@ pub loop-i-init : goal.loop-i-init
 loop-i-init c =
     let documents = c.args.documents.now in
     let first : Document = record { uri = string_bytes documents.uri; value = view documents.root.now } in
-    let added = subst (λ (t : Text). Adds (whole_document c.args.rule (draft_of c.args.draft) 0 (record { uri = t; value = first.value }))
+    let added = subst (λ (t : Text). Adds (whole_document c.args.reading.now 0 (record { uri = t; value = first.value }))
     c.args.gathered.now c.add_document.new.gathered) c.as_str-uri.ensures.value c.in_ok-add_document.ensures.added in
-    only_first (whole_document c.args.rule (draft_of c.args.draft) 0 first) c.args.gathered.now c.add_document.new.gathered added
+    only_first (whole_document c.args.reading.now 0 first) c.args.gathered.now c.add_document.new.gathered added
 
 pub loop-i-preserved : goal.loop-i-preserved
 loop-i-preserved c =
@@ -24,16 +23,16 @@ loop-i-preserved c =
     let items = documents.others.items in
     let same : c.deref-other-items.result.now ≡ items = c.deref-other-items.ensures.value in
     let first : Document = record { uri = string_bytes documents.uri; value = view documents.root.now } in
-    let rule = c.args.rule in
-    let draft = draft_of c.args.draft in
+    let reading = c.args.reading.now in
     let i = c.loop-i.i in
     let other = c.other-item.result in
     let within : i < length items = omega (arith, ap (length {A = code.Document.Document}) same) in
     let at : other ≡ get_or items i other = c.other-item.is ∙ ap (λ (xs : List code.Document.Document). get_or xs i other) same in
     let uri = c.as_str-uri-in-loop-i.ensures.value in
     let added = subst (λ (t : Text). Adds
-    (whole_document rule draft (i + 1) (record { uri = t; value = (document_of (given_of other)).value })) c.loop-i.gathered c.add_document-in-loop-i.new.gathered) uri c.in_ok-add_document-2.ensures.added in
-    next_document rule draft first given_of document_of items i c.args.gathered.now c.loop-i.gathered c.add_document-in-loop-i.new.gathered
+    (whole_document reading (i + 1) (record { uri = t; value = (document_of (given_of other)).value })) c.loop-i.gathered
+    c.add_document-in-loop-i.new.gathered) uri c.in_ok-add_document-2.ensures.added in
+    next_document reading first given_of document_of items i c.args.gathered.now c.loop-i.gathered c.add_document-in-loop-i.new.gathered
     other within at c.loop-i.invariant added
 
 pub returns : goal.returns
@@ -43,6 +42,6 @@ returns c =
     let first : Document = record { uri = string_bytes documents.uri; value = view documents.root.now } in
     let done : length items ≤ c.loop-i.i = omega (arith, ap (length {A = code.Document.Document}) c.deref-other-items.ensures.value) in
     record {
-      added = all_documents c.args.rule (draft_of c.args.draft) first given_of document_of items c.loop-i.i c.args.gathered.now
+      added = all_documents c.args.reading.now first given_of document_of items c.loop-i.i c.args.gathered.now
           c.loop-i.gathered done c.loop-i.invariant;
     }

@@ -1,4 +1,4 @@
-use Rattle.std.proofs.Common.{Bor, ◌∙◌, Option, ap, option_map, refl, sym}
+use Rattle.std.proofs.Common.{Bor, ◌∙◌, Option, ap, option_map, sym}
 use Rattle.std.specs.Prelude.{unwrap_or}
 use Rattle.serde_json.specs.Data.{Data, null}
 use Rattle.serde_json.specs.View.{view}
@@ -6,10 +6,10 @@ use Rattle.serde_json.specs.declared.value.Value.{Value}
 use Rattle.schema_traits.specs.ResolverViews.{place_of}
 use Rattle.schema_drafts.specs.KeywordViews.{draft_of}
 use Rattle.standard_subschemas.specs.NamedDrafts.{names_draft_inside}
-use Rattle.standard_resolver.specs.ResolverAnswers.{document_resolving}
+use Rattle.standard_resolver.specs.ResolverAnswers.{document_resolving, reading_in}
 use Rattle.standard_resolver.specs.ResolverLaws.{values_stand_inside}
 use Rattle.standard_resolver.specs.SubschemaLaws.{subschemas_stand_below}
-use Rattle.standard_resolver.proofs.KeptDrafts.{keeps}
+use Rattle.standard_resolver.proofs.KeptDrafts.{keeps, undetected}
 use Rattle.standard_resolver.proofs.resolver.DocumentResolverResolver.may_change_draft.Goals as goal
 
 pub returns-in-Some : goal.returns-in-Some
@@ -18,7 +18,7 @@ returns-in-Some c = record {
       let r = document_resolving c.args.self.now in
       let p = place_of c.args._place.now in
       let there = sym read ∙ ap (option_map (λ (b : Bor Value). view b.now)) c.in-Some.is in
-      keeps r (values_stand_inside c.args.self.now) (subschemas_stand_below c.args.self.now) (λ d v. refl) n (draft_of c.args._draft) p
+      keeps r (values_stand_inside c.args.self.now) (subschemas_stand_below c.args.self.now) (undetected (reading_in c.args.self.now)) n (draft_of c.args._draft) p
       (ap (λ (o : Option Data). names_draft_inside (unwrap_or o null)) there ∙ sym c.names_draft_inside.ensures.names ∙ is);
 }
 
@@ -28,6 +28,6 @@ returns-in-None c = record {
       let r = document_resolving c.args.self.now in
       let p = place_of c.args._place.now in
       let none = sym read ∙ ap (option_map (λ (b : Bor Value). view b.now)) c.in-None.is in
-      keeps r (values_stand_inside c.args.self.now) (subschemas_stand_below c.args.self.now) (λ d v. refl) n (draft_of c.args._draft) p
+      keeps r (values_stand_inside c.args.self.now) (subschemas_stand_below c.args.self.now) (undetected (reading_in c.args.self.now)) n (draft_of c.args._draft) p
       (ap (λ (o : Option Data). names_draft_inside (unwrap_or o null)) none);
 }

@@ -1,0 +1,2 @@
+pub mod StandardDrafts
+pub mod ListedVocabularies
