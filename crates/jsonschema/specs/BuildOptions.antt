@@ -31,7 +31,7 @@ with_engine o engine = record o { engine = engine }
 
 -- what a schema is built from
 abbrev pub sources_of : BuildOptions → Value → SchemaSources
-sources_of o schema = record { schema = schema; uri = o.uri; draft = o.default_draft; documents = o.documents }
+sources_of o schema = record { schema = schema; uri = o.uri; root_draft = o.engine.draft; draft = o.default_draft; documents = o.documents }
 
 -- the draft, if it is one of the standard's
 abbrev pub if_known : Draft → Option Draft

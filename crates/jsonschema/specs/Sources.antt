@@ -1,6 +1,6 @@
--- What a validator is built from: a schema, the URI that it is found under, the draft of schemas
--- that do not name theirs (both optional), and the documents that its references may lead to, each
--- under its URI. (Core 2020-12, 8.2 and 9.1)
+-- What a validator is built from: a schema, the URI that it is found under, the draft that is set
+-- for it, the draft of schemas that do not name theirs (these are optional), and the documents that
+-- its references may lead to, each under its URI. (Core 2020-12, 8.1.1, 8.2 and 9.1)
 use Rattle.std.specs.Prelude.{List, None, Option, Some, [], codes, map, unwrap_or, ◌++◌, ◌∷◌, ◌≡◌}
 use Rattle.serde_json.specs.Data.{Data}
 use Rattle.serde_json.specs.Find.{get}
@@ -15,6 +15,7 @@ use Rattle.schema_validator.specs.Handed.{Options}
 pub record SchemaSources : Type 0 where
   pub schema : Value
   pub uri : Option Text
+  pub root_draft : Option Draft
   pub draft : Option Draft
   pub documents : List GivenDocument
 
@@ -26,10 +27,14 @@ values_of s = view s.schema ∷ map (λ d. view d.value) s.documents
 abbrev pub default_draft_of : SchemaSources → Draft
 default_draft_of s = unwrap_or s.draft draft_2020_12
 
--- the option for the root's draft: the draft of the sources, if one is set and the schema names
--- none, and otherwise the given option
+-- the draft that the sources set for the root: the one that is set for it, or else the default one,
+-- if the schema names none
+abbrev pub set_draft : SchemaSources → Option Draft
+set_draft s = elim s.root_draft [ Some draft ↦ Some draft | None ↦ elim (get (codes "$schema") (view s.schema)) [ Some d ↦ None | None ↦ s.draft ] ]
+
+-- the option for the root's draft: the one that the sources set, and otherwise the given option
 abbrev pub draft_option : SchemaSources → Option Draft → Option Draft
-draft_option s o = elim (get (codes "$schema") (view s.schema)) [ Some d ↦ o | None ↦ elim s.draft [ Some draft ↦ Some draft | None ↦ o ] ]
+draft_option s o = elim (set_draft s) [ Some draft ↦ Some draft | None ↦ o ]
 
 -- the URI that the schema is found under
 abbrev pub uri_of : SchemaSources → Text

@@ -11,7 +11,7 @@ ghost use Rattle.jsonschema.specs.Built.{IsBuilt, IsBuiltOf, IsRefused, IsRefuse
 ghost use Rattle.jsonschema.specs.Built.{AreStandard, EachMeans, IsBuiltFrom, IsBuiltWith, IsNoValidatorOf, IsValidatorOf, RefusesFrom};
 ghost use Rattle.jsonschema.specs.BuildOptions.{HasNeeded, if_known, needed_draft, root_draft_of, sources_of};
 ghost use Rattle.jsonschema.specs.Refusing.{IsUnrefused, TellsOf};
-ghost use Rattle.jsonschema.specs.Sources.{default_draft_of, options_by, uri_of};
+ghost use Rattle.jsonschema.specs.Sources.{default_draft_of, options_by, set_draft, uri_of};
 ghost use Rattle.standard_resolver.specs.ResolverHolds.{Customs, Defaults, Drafts, GoesBy, Holds, IsUnder, Others};
 
 use crate::build_options::BuildOptions;
@@ -43,9 +43,20 @@ fn uri_of<'s>(sources: &'s Sources<'_>) -> &'s str
     }
 }
 
-/// Returns the options with the URI and the default draft of the sources.
-///
-/// The default draft is set only if the schema names none.
+/// Returns the draft that is set for the schema, or else the default one, if the schema names none.
+fn set_draft(sources: &Sources<'_>) -> Option<Draft>
+    ensures draft { option_map draft_of result ≡ set_draft sources.now }
+{
+    match sources.root_draft {
+        Some(draft) => Some(draft),
+        None => match sources.schema.get("$schema") {
+            Some(_) => None,
+            None => sources.draft,
+        },
+    }
+}
+
+/// Returns the options with the URI and the draft of the sources.
 fn options_for(
     alloc: Global,
     options: ValidationOptions,
@@ -54,10 +65,8 @@ fn options_for(
     ensures options { Yields result (options_by sources.now options) }
 {
     let mut options = options;
-    if let Some(draft) = sources.draft {
-        if sources.schema.get("$schema").is_none() {
-            options = options.with_draft(draft);
-        }
+    if let Some(draft) = set_draft(sources) {
+        options = options.with_draft(draft);
     }
     options.with_base_uri(alloc, uri_of(sources))
 }
@@ -145,6 +154,7 @@ fn sources_of<'a>(options: BuildOptions<'a>, schema: &'a Value) -> (Sources<'a>,
     let sources = Sources {
         schema,
         uri: options.uri,
+        root_draft: options.draft,
         draft: options.default_draft,
         documents: options.documents,
     };

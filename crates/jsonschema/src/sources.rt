@@ -19,6 +19,7 @@ use std::marker::Model;
 pub(crate) struct Sources<'a> {
     pub(crate) schema: &'a Value,
     pub(crate) uri: Option<String>,
+    pub(crate) root_draft: Option<Draft>,
     pub(crate) draft: Option<Draft>,
     pub(crate) documents: Vec<Document<'a>>,
 }
@@ -38,6 +39,7 @@ impl<'a> Model for Sources<'a> {
     ghost view = { λ s. record {
       schema = s.schema.now;
       uri = option_map string_bytes s.uri;
+      root_draft = option_map draft_of s.root_draft;
       draft = option_map draft_of s.draft;
       documents = map given_of s.documents.items;
     } };
