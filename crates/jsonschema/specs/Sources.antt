@@ -3,12 +3,12 @@
 -- its references may lead to, each under its URI. (Core 2020-12, 8.1.1, 8.2 and 9.1)
 use Rattle.std.specs.Prelude.{List, None, Option, Some, [], codes, map, unwrap_or, ◌++◌, ◌∷◌, ◌≡◌}
 use Rattle.serde_json.specs.Data.{Data}
-use Rattle.serde_json.specs.Find.{get}
 use Rattle.serde_json.specs.View.{view}
 use Rattle.serde_json.specs.declared.value.Value.{Value}
 use Rattle.theory_definitions.specs.Drafts.{Draft, draft_2020_12}
 use Rattle.theory_definitions.specs.Instance.{Text}
 use Rattle.standard_resolver.specs.ResolverDocuments.{HeldDocuments, GivenDocument, HasCustom, HasDrafts}
+use Rattle.standard_subschemas.specs.SubschemaRules.{text_member}
 use Rattle.standard_subschemas.specs.declared.rules.Rule.TheVariants.{Standard}
 use Rattle.schema_validator.specs.Handed.{Options}
 
@@ -30,7 +30,7 @@ default_draft_of s = unwrap_or s.draft draft_2020_12
 -- the draft that the sources set for the root: the one that is set for it, or else the default one,
 -- if the schema names none
 abbrev pub set_draft : SchemaSources → Option Draft
-set_draft s = elim s.root_draft [ Some draft ↦ Some draft | None ↦ elim (get (codes "$schema") (view s.schema)) [ Some d ↦ None | None ↦ s.draft ] ]
+set_draft s = elim s.root_draft [ Some draft ↦ Some draft | None ↦ elim (text_member (codes "$schema") (view s.schema)) [ Some t ↦ None | None ↦ s.draft ] ]
 
 -- the option for the root's draft: the one that the sources set, and otherwise the given option
 abbrev pub draft_option : SchemaSources → Option Draft → Option Draft

@@ -27,7 +27,7 @@ use serde_json::Value;
 use standard_keywords::{StandardKeyword, StandardTable};
 use standard_meta::{MetaDocuments, MetaError, MetaSchemas};
 use standard_resolver::{Document, DocumentResolver, Rule};
-use standard_subschemas::{detected, names_draft_inside};
+use standard_subschemas::{detected, names_draft_inside, text_member};
 use std::alloc::Global;
 
 /// A validator with the standard's keywords and regular expressions.
@@ -49,7 +49,7 @@ fn set_draft(sources: &Sources<'_>) -> Option<Draft>
 {
     match sources.root_draft {
         Some(draft) => Some(draft),
-        None => match sources.schema.get("$schema") {
+        None => match text_member(sources.schema, "$schema") {
             Some(_) => None,
             None => sources.draft,
         },
