@@ -1,17 +1,31 @@
 //! Building and asking in one call, by the standard's parts and the default options.
-ghost use Rattle.std.specs.Prelude.{IfErr, IfOk};
+ghost use Rattle.std.specs.Prelude.{◌≡◌, IfErr, IfOk};
 ghost use Rattle.jsonschema.specs.BuildOptions.{no_options};
 ghost use Rattle.jsonschema.specs.Built.{IsNoValidatorOf, IsValidatorOf};
 ghost use Rattle.jsonschema.specs.Calls.{AreErrorsOf, IsEvaluationOf, IsFirstErrorOf, IsVerdictOf};
+ghost use Rattle.jsonschema.specs.Refusing.{IsUnrefused};
 
 use crate::build_options::options;
 use crate::building::StandardValidator;
 use crate::error::BuildError;
-use schema_engine::{ErrorIterator, Evaluation, KeywordTable, Resolver, Validate, ValidationError};
+use schema_engine::{
+    ErrorIterator, Evaluation, KeywordTable, OutOfMemory, Resolver, Validate, ValidationError,
+};
 use serde_json::Value;
 use standard_keywords::{StandardKeyword, StandardTable};
 use standard_resolver::DocumentResolver;
 use std::alloc::Global;
+
+/// Returns the answer of a call of a validator. Its only error is want of memory.
+fn told_call<A: Drop>(answer: Result<A, OutOfMemory>) -> Result<A, BuildError>
+    ensures same { IfOk result (λ a. answer ≡ Ok a) }
+    ensures unrefused { IfErr result IsUnrefused }
+{
+    match answer {
+        Ok(answer) => Ok(answer),
+        Err(_refused) => Err(BuildError::OutOfMemory),
+    }
+}
 
 /// Builds a validator of a schema, by the default options.
 ///
@@ -44,10 +58,7 @@ pub fn is_valid(alloc: Global, schema: &Value, instance: &Value) -> Result<bool,
         Ok(validator) => {
             let answer = validator.is_valid(alloc, instance);
             drop(validator);
-            match answer {
-                Ok(answer) => Ok(answer),
-                Err(_refused) => Err(BuildError::OutOfMemory),
-            }
+            told_call(answer)
         }
         Err(refused) => Err(refused),
     }
@@ -72,10 +83,7 @@ pub fn validate<'i>(
         Ok(validator) => {
             let answer = validator.validate(alloc, instance);
             drop(validator);
-            match answer {
-                Ok(answer) => Ok(answer),
-                Err(_refused) => Err(BuildError::OutOfMemory),
-            }
+            told_call(answer)
         }
         Err(refused) => Err(refused),
     }
@@ -100,10 +108,7 @@ pub fn iter_errors<'i>(
         Ok(validator) => {
             let answer = validator.iter_errors(alloc, instance);
             drop(validator);
-            match answer {
-                Ok(answer) => Ok(answer),
-                Err(_refused) => Err(BuildError::OutOfMemory),
-            }
+            told_call(answer)
         }
         Err(refused) => Err(refused),
     }
@@ -124,10 +129,7 @@ pub fn evaluate(alloc: Global, schema: &Value, instance: &Value) -> Result<Evalu
         Ok(validator) => {
             let answer = validator.evaluate(alloc, instance);
             drop(validator);
-            match answer {
-                Ok(answer) => Ok(answer),
-                Err(_refused) => Err(BuildError::OutOfMemory),
-            }
+            told_call(answer)
         }
         Err(refused) => Err(refused),
     }
