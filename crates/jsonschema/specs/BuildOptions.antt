@@ -12,7 +12,7 @@ use Rattle.meta_checker.specs.DraftChecks.{DraftPrograms, program_of}
 use Rattle.schema_validator.specs.Handed.{Options, default_options}
 use Rattle.standard_resolver.specs.ResolverDocuments.{GivenDocument}
 use Rattle.standard_subschemas.specs.NamedDrafts.{names_draft_inside}
-use Rattle.standard_subschemas.specs.SubschemaRules.{detected}
+use Rattle.standard_resolver.specs.Dialects.{draft_said, schema_of}
 use Rattle.jsonschema.specs.Sources.{SchemaSources}
 
 pub record BuildOptions : Type 0 where
@@ -42,13 +42,13 @@ if_known draft_2019_09 = Some draft_2019_09
 if_known draft_2020_12 = Some draft_2020_12
 if_known draft_unknown = None
 
--- the draft of the root: the one that is set for it, or else the one that its `$schema` names, or
--- else the default
+-- the draft of the root: the one that is set for it, or else the one that its `$schema` names by a
+-- standard's URI, or else the default
 abbrev pub root_draft_of : BuildOptions → Data → Draft
-root_draft_of o schema = unwrap_or o.engine.draft (detected (unwrap_or o.default_draft draft_2020_12) schema)
+root_draft_of o schema = unwrap_or o.engine.draft (draft_said (unwrap_or o.default_draft draft_2020_12) (schema_of schema))
 
 -- the one draft whose meta-schema the check of a schema needs; `None` if it may need those of all
--- drafts, because a `$schema` stands inside, or the root's names no draft of the standard's
+-- drafts, because a `$schema` stands inside, or the root's is no standard's URI
 abbrev pub needed_draft : BuildOptions → Data → Option Draft
 needed_draft o schema = if names_draft_inside schema then None else if_known (root_draft_of o schema)
 

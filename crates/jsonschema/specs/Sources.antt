@@ -7,7 +7,9 @@ use Rattle.serde_json.specs.View.{view}
 use Rattle.serde_json.specs.declared.value.Value.{Value}
 use Rattle.theory_definitions.specs.Drafts.{Draft, draft_2020_12}
 use Rattle.theory_definitions.specs.Instance.{Text}
-use Rattle.standard_resolver.specs.ResolverDocuments.{HeldDocuments, GivenDocument, HasCustom, HasDrafts}
+use Rattle.standard_resolver.specs.MetaVocabularies.{AreListed}
+use Rattle.standard_resolver.specs.ResolverAnswers.{reading_in}
+use Rattle.standard_resolver.specs.ResolverDocuments.{HeldDocuments, GivenDocument, HasCustom, HasDrafts, documents_of}
 use Rattle.standard_subschemas.specs.SubschemaRules.{text_member}
 use Rattle.standard_subschemas.specs.declared.rules.Rule.TheVariants.{Standard}
 use Rattle.schema_validator.specs.Handed.{Options}
@@ -44,15 +46,18 @@ uri_of s = unwrap_or s.uri (codes "json-schema:///")
 abbrev pub options_by : SchemaSources → Options → Options
 options_by s options = record options { draft = draft_option s options.draft; base = Some (uri_of s) }
 
--- the resolver holds the schema and the documents, and requires no vocabularies but those of each
--- draft
+-- the resolver holds the schema and the documents, reads the schema in the draft that is set for it,
+-- and requires no vocabularies but those of each draft; those that a supplied meta-schema lists are in
+-- force in place of the draft's
 pub record IsResolverOf (s : SchemaSources) (r : HeldDocuments) : Type 0 where
   pub rule : r.rule ≡ Standard
   pub uri : r.uri ≡ uri_of s
   pub document : r.document ≡ s.schema
   pub others : r.others ≡ s.documents
+  pub root_draft : r.root_draft ≡ s.root_draft
   pub default_draft : r.default_draft ≡ default_draft_of s
   pub drafts : HasDrafts [] r.vocabularies
+  pub listed : AreListed (reading_in r) (documents_of r) r.listed
   pub custom : HasCustom [] r.vocabularies
 
 -- the sources with more documents

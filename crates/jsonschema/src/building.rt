@@ -12,7 +12,7 @@ ghost use Rattle.jsonschema.specs.Built.{AreStandard, EachMeans, IsBuiltFrom, Is
 ghost use Rattle.jsonschema.specs.BuildOptions.{HasNeeded, if_known, needed_draft, root_draft_of, sources_of};
 ghost use Rattle.jsonschema.specs.Refusing.{IsUnrefused, TellsOf};
 ghost use Rattle.jsonschema.specs.Sources.{default_draft_of, options_by, set_draft, uri_of};
-ghost use Rattle.standard_resolver.specs.ResolverHolds.{Customs, Defaults, Drafts, GoesBy, Holds, IsUnder, Others};
+ghost use Rattle.standard_resolver.specs.ResolverHolds.{Customs, Defaults, Drafts, GoesBy, Holds, IsUnder, ListsVocabularies, Others, RootsIn};
 
 use crate::build_options::BuildOptions;
 use crate::error::{BuildError, error_of, unrefused};
@@ -24,10 +24,11 @@ use schema_engine::{
     Validate, ValidationOptions, Validator, VocabularySet,
 };
 use serde_json::Value;
+use standard_dialects::standard_draft;
 use standard_keywords::{StandardKeyword, StandardTable};
 use standard_meta::{MetaDocuments, MetaError, MetaSchemas};
 use standard_resolver::{Document, DocumentResolver, Rule};
-use standard_subschemas::{detected, names_draft_inside, text_member};
+use standard_subschemas::{names_draft_inside, text_member};
 use std::alloc::Global;
 
 /// A validator with the standard's keywords and regular expressions.
@@ -77,8 +78,10 @@ fn resolver_of<'a>(alloc: Global, sources: Sources<'a>) -> Result<DocumentResolv
     ensures uri { IsUnder result (uri_of sources.entry) }
     ensures document { Holds result sources.entry.schema }
     ensures others { Others result sources.entry.documents }
+    ensures root_draft { RootsIn result sources.entry.root_draft }
     ensures draft { Defaults result (default_draft_of sources.entry) }
     ensures drafts { Drafts result [] }
+    ensures listed { ListsVocabularies result }
     ensures custom { Customs result [] }
 {
     let draft = sources.draft.unwrap_or(Draft::Draft202012);
@@ -86,9 +89,10 @@ fn resolver_of<'a>(alloc: Global, sources: Sources<'a>) -> Result<DocumentResolv
         uri: String::from_str(alloc, uri_of(&sources))?,
         value: sources.schema,
     };
-    DocumentResolver::new(
+    DocumentResolver::in_draft(
         alloc,
         Rule::Standard,
+        sources.root_draft,
         draft,
         root,
         sources.documents,
@@ -223,7 +227,10 @@ impl<'a> BuildOptions<'a> {
     {
         match self.draft {
             Some(draft) => draft,
-            None => detected(self.default_draft.unwrap_or(Draft::Draft202012), schema),
+            None => match text_member(schema, "$schema") {
+                Some(uri) => standard_draft(uri),
+                None => self.default_draft.unwrap_or(Draft::Draft202012),
+            },
         }
     }
 

@@ -1,5 +1,5 @@
 -- The validator of a meta-schema, by the parts and options of its build.
-use Rattle.std.proofs.Common.{Err, IfOk, List, Ok, Result, [], ap, map, subst, sym, ◌∙◌, ◌≡◌}
+use Rattle.std.proofs.Common.{Err, IfOk, List, None, Ok, Result, [], ap, map, subst, sym, ◌∙◌, ◌≡◌}
 use Rattle.serde_json.specs.Data.{Data}
 use Rattle.serde_json.specs.View.{view}
 use Rattle.theory_definitions.specs.Drafts.{Draft}
@@ -13,7 +13,9 @@ use Rattle.schema_validator.specs.BuildResults.{IsBuilt}
 use Rattle.schema_validator.specs.Called.{IsCompiledFrom, MeansPlainly}
 use Rattle.schema_validator.specs.Handed.{Handed, Options, handed}
 use Rattle.schema_compiled.specs.Program.{Program}
-use Rattle.standard_resolver.specs.ResolverDocuments.{GivenDocument, HasCustom, HasDrafts, HeldDocuments}
+use Rattle.standard_resolver.specs.MetaVocabularies.{AreListed}
+use Rattle.standard_resolver.specs.ResolverAnswers.{reading_in}
+use Rattle.standard_resolver.specs.ResolverDocuments.{GivenDocument, HasCustom, HasDrafts, HeldDocuments, documents_of}
 use Rattle.standard_subschemas.specs.declared.rules.Rule.TheVariants.{Narrow}
 use Rattle.standard_keywords.specs.declared.patterns.UnreadablePatterns.TheVariants as unreadable
 use Rattle.standard_keywords.specs.declared.table.StandardTable.{StandardTable}
@@ -47,18 +49,21 @@ module _ {State S C Maker Run K : Type 0} (resolvers : ResolverMembers HeldDocum
     (keywords : KeywordMembers C Run K) (draft : Draft) (r : HeldDocuments) (m : Treatment) (root : GivenDocument) (others : List GivenDocument) where
   -- a meta-schema that was read and compiled by this resolver and this matcher
   pub means_draft : (v p : Program C Treatment) → r.rule ≡ Narrow → r.uri ≡ root.uri → r.document ≡ root.value → r.others ≡ others
-      → r.default_draft ≡ draft → HasDrafts [] r.vocabularies → HasCustom [] r.vocabularies → m ≡ of_meta_schemas
+      → r.root_draft ≡ None → r.default_draft ≡ draft → HasDrafts [] r.vocabularies → AreListed (reading_in r) (documents_of r) r.listed
+      → HasCustom [] r.vocabularies → m ≡ of_meta_schemas
       → IsCompiledOf resolvers tables keywords r m (view root.value) v → p ≡ v
       → read_of root ≡ reading_of (schema_text draft) → AreRead (vocabulary_texts draft) others
       → MeansDraft resolvers tables keywords draft p
-  means_draft v p rule same_uri same_document same_others default drafts custom matcher compiled same root_read others_read = record {
+  means_draft v p rule same_uri same_document same_others root_draft default drafts listed custom matcher compiled same root_read others_read = record {
     resolver = r;
     rule = rule;
     document = ap (λ u. read_of (record { uri = u; value = r.document })) same_uri
         ∙ ap (λ x. read_of (record { uri = root.uri; value = x })) same_document ∙ root_read;
     others = ap (map read_of) same_others ∙ others_read;
+    root_draft = root_draft;
     default_draft = default;
     drafts = drafts;
+    listed = listed;
     custom = custom;
     compiled = subst (λ x. IsCompiledOf resolvers tables keywords r of_meta_schemas (view x) p) (sym same_document)
         (subst (λ t. IsCompiledOf resolvers tables keywords r t (view root.value) p) matcher

@@ -12,7 +12,9 @@ use Rattle.schema_traits.specs.declared.table.KeywordTable.{Ghosts as TableMembe
 use Rattle.pattern_matcher.specs.PatternMatching.{finishes_each, pattern_matcher}
 use Rattle.pattern_matcher.specs.declared.treatment.Treatment.{Treatment}
 use Rattle.pattern_matcher.specs.declared.treatment.Unreadable.TheVariants.{MatchesNothing}
-use Rattle.standard_resolver.specs.ResolverDocuments.{HeldDocuments, HasCustom, HasDrafts}
+use Rattle.standard_resolver.specs.MetaVocabularies.{AreListed}
+use Rattle.standard_resolver.specs.ResolverAnswers.{reading_in}
+use Rattle.standard_resolver.specs.ResolverDocuments.{HeldDocuments, HasCustom, HasDrafts, documents_of}
 use Rattle.standard_subschemas.specs.declared.rules.Rule.TheVariants.{Narrow}
 use Rattle.schema_validator.specs.Called.{IsCompiledFrom, MeansPlainly}
 use Rattle.schema_validator.specs.Handed.{Handed, Options, default_options, handed}
@@ -56,7 +58,9 @@ module _ {State S C Maker Run K : Type 0} (resolvers : ResolverMembers HeldDocum
     pub rule : resolver.rule ≡ Narrow
     pub document : read_of (record { uri = resolver.uri; value = resolver.document }) ≡ reading_of (schema_text draft)
     pub others : AreRead (vocabulary_texts draft) resolver.others
+    pub root_draft : resolver.root_draft ≡ None
     pub default_draft : resolver.default_draft ≡ draft
     pub drafts : HasDrafts [] resolver.vocabularies
+    pub listed : AreListed (reading_in resolver) (documents_of resolver) resolver.listed
     pub custom : HasCustom [] resolver.vocabularies
     pub compiled : IsCompiledOf resolver of_meta_schemas (view resolver.document) p

@@ -1,5 +1,5 @@
 //! The meta validators.
-ghost use Rattle.std.specs.Prelude.{◌≡◌, [], IfOk, OnOk, is_some, map, true};
+ghost use Rattle.std.specs.Prelude.{◌≡◌, [], IfOk, None, OnOk, is_some, map, true};
 ghost use Rattle.serde_json.specs.View.{view};
 ghost use Rattle.theory_definitions.specs.Drafts as drafts;
 ghost use Rattle.meta_checker.specs.DraftChecks.{EachChecks, known, no_programs, program_of};
@@ -11,7 +11,7 @@ ghost use Rattle.schema_traits.specs.Showing.{Yields};
 ghost use Rattle.pattern_matcher.specs.PatternMatching.{pattern_matcher};
 ghost use Rattle.schema_drafts.specs.KeywordViews.{draft_of};
 ghost use Rattle.standard_resolver.specs.DocumentViews.{given_of as document_given};
-ghost use Rattle.standard_resolver.specs.ResolverHolds.{Customs, Defaults, Drafts, GoesBy, Holds, IsUnder, Others};
+ghost use Rattle.standard_resolver.specs.ResolverHolds.{Customs, Defaults, Drafts, GoesBy, Holds, IsUnder, ListsVocabularies, Others, RootsIn};
 ghost use Rattle.standard_subschemas.specs.declared.rules.Rule.TheVariants.{Narrow};
 
 use crate::documents::{DraftDocuments, MetaDocument, read_draft};
@@ -77,8 +77,10 @@ fn resolver_of<'p>(
     ensures uri { IsUnder result documents.now.root.uri.now }
     ensures document { Holds result documents.now.root.value }
     ensures others { Others result (map given_of documents.now.others.items) }
+    ensures root_draft { RootsIn result None }
     ensures draft { Defaults result (draft_of draft) }
     ensures drafts { Drafts result [] }
+    ensures listed { ListsVocabularies result }
     ensures custom { Customs result [] }
 {
     let root = Document {

@@ -13,8 +13,10 @@ returns-clause-built g c =
       uri = e.uri;
       document = e.document;
       others = e.others;
+      root_draft = e.root_draft;
       default_draft = e.draft;
       drafts = e.drafts;
+      listed = e.listed;
       custom = e.custom;
     } in
     let same = ap (λ (s : SchemaSources). view s.schema) c.sources.view_is in
@@ -29,8 +31,10 @@ returns-clause-refused g c =
       uri = e.uri;
       document = e.document;
       others = e.others;
+      root_draft = e.root_draft;
       default_draft = e.draft;
       drafts = e.drafts;
+      listed = e.listed;
       custom = e.custom;
     } in
     let same = ap (λ (s : SchemaSources). view s.schema) c.sources.view_is in

@@ -9,5 +9,5 @@ returns-in-Some c =
     record {
       means = λ root others. means_draft _ _ _ _ c.in_ok-resolver.resolver _ (given_of c.args.documents.now.root)
           (map given_of c.args.documents.now.others.items) c.in_ok-validator.field-0 _ made.rule made.uri made.document made.others
-          made.draft made.drafts made.custom c.in_ok-matcher.ensures.matcher c.in_ok-validator.ensures.compiled c.in-Some.ensures.is root others;
+          made.root_draft made.draft made.drafts made.listed made.custom c.in_ok-matcher.ensures.matcher c.in_ok-validator.ensures.compiled c.in-Some.ensures.is root others;
     }
