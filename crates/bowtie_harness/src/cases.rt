@@ -4,6 +4,8 @@ use bowtie_protocol::{Case, Engine, Judge};
 use jsonschema::{BuildError, BuildOptions, MetaSchemas, StandardValidator, options};
 use schema_engine::{Draft, OutOfMemory};
 use serde_json::Value;
+use standard_dialects::standard_draft;
+use standard_subschemas::without_fragment;
 use std::alloc::Global;
 
 /// The engine with the standard's keywords, and the check by the meta-schemas.
@@ -24,14 +26,31 @@ impl Judge for Asked<'_> {
     }
 }
 
+/// Returns whether the `$schema` of a case's schema names no draft, and no document of the registry.
+fn names_unknown(case: &Case<'_>) -> bool {
+    let Some(uri) = case.schema.get("$schema").and_then(Value::as_str) else {
+        return false;
+    };
+    let supplied = match case.body.get("registry") {
+        Some(registry) => registry.get(without_fragment(uri)).is_some(),
+        None => false,
+    };
+    !supplied && matches!(standard_draft(uri), Draft::Unknown)
+}
+
 /// Returns the options of a case: its draft, and the documents of its registry.
+///
+/// The draft is set for the schema if its `$schema` is not known.
 fn chosen_by<'c>(
     alloc: Global,
     draft: Draft,
-    body: &'c Value,
+    case: &Case<'c>,
 ) -> Result<BuildOptions<'c>, OutOfMemory> {
     let mut chosen = options(alloc).with_default_draft(draft);
-    if let Some(registry) = body.get("registry").and_then(Value::as_object) {
+    if names_unknown(case) {
+        chosen = chosen.with_draft(draft);
+    }
+    if let Some(registry) = case.body.get("registry").and_then(Value::as_object) {
         for (uri, document) in registry.iter() {
             chosen = chosen.with_document(uri.as_str(), document)?;
         }
@@ -47,7 +66,7 @@ fn refuse(alloc: Global, case: Case<'_>, refused: &BuildError) -> Result<Value, 
 
 impl Engine for Harness<'_> {
     fn answer(&self, alloc: Global, draft: Draft, case: Case<'_>) -> Result<Value, OutOfMemory> {
-        let chosen = chosen_by(alloc, draft, case.body)?;
+        let chosen = chosen_by(alloc, draft, &case)?;
         match chosen.build_by(self.metas, case.schema) {
             Ok(validator) => {
                 let asked = Asked {

@@ -91,7 +91,7 @@ pub struct Options<'w> {
     /// A file with an instance on each line.
     pub lines: Option<&'w str>,
     pub resources: Vec<Resource<'w>>,
-    /// The draft of schemas that do not name theirs.
+    /// The draft of the schema, whatever its `$schema` says.
     pub draft: Option<Draft>,
     pub output: Output,
     /// Whether the schema is checked against its meta-schema.

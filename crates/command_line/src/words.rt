@@ -65,7 +65,7 @@ fn resource_option<'a>(alloc: Global) -> Arg<'a> {
 }
 
 fn draft_option<'a>(alloc: Global) -> Arg<'a> {
-    let help = "The draft of schemas that do not say theirs by $schema; else 2020-12";
+    let help = "The draft of the schema, whatever its $schema says; else that one, or 2020-12";
     option(alloc, "draft", "DRAFT", help).value_parser(DRAFTS.as_slice())
 }
 

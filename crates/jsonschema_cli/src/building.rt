@@ -45,7 +45,7 @@ fn chosen_by<'a>(
 ) -> Result<BuildOptions<'a>, OutOfMemory> {
     let mut chosen = build_options(alloc).should_validate_schema(options.checked);
     if let Some(draft) = options.draft {
-        chosen = chosen.with_default_draft(draft);
+        chosen = chosen.with_draft(draft);
     }
     with_documents(with_limits(chosen, options), documents)
 }
@@ -56,7 +56,7 @@ fn hint_of(refused: &EngineError) -> &'static str {
         EngineError::NotASchema(_) => "a schema is an object, true or false",
         EngineError::ReferenceNotText(_) => "write the reference as a string",
         EngineError::Lookup(_) | EngineError::MissingRoot(_) => {
-            "mend the reference; a document that it leads to is handed over by --resource URI=FILE"
+            "mend the URI, or hand over its document by --resource URI=FILE; --draft sets the draft"
         }
         EngineError::KeywordRefused(_) => "write this keyword otherwise, or leave it out",
         EngineError::UnsupportedVocabulary(_) => {
