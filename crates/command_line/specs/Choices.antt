@@ -1,9 +1,13 @@
 -- The options that the words of a call choose.
-use Rattle.std.specs.Prelude.{None, Option, Some, bytes_eq, codes, if◌then◌else◌}
+use Rattle.std.specs.Prelude.{Bool, None, Option, Some, bytes_eq, codes, false, if◌then◌else◌, true}
 use Rattle.theory_definitions.specs.Drafts.{Draft, draft_2019_09, draft_2020_12, draft_4, draft_6, draft_7}
 use Rattle.theory_definitions.specs.Instance.{Text}
 use Rattle.command_line.specs.declared.options.Output.{Output}
 use Rattle.command_line.specs.declared.options.Output.TheVariants as output
+use Rattle.command_line.specs.declared.styles.Color.{Color}
+use Rattle.command_line.specs.declared.styles.Color.TheVariants as color
+use Rattle.command_line.specs.declared.styles.Paint.{Paint}
+use Rattle.command_line.specs.declared.styles.Paint.TheVariants as paint
 
 -- the word that chooses an output
 abbrev pub name_of : Output → Text
@@ -28,3 +32,17 @@ draft_named name =
     else if bytes_eq name (codes "2019-09") then Some draft_2019_09
     else if bytes_eq name (codes "2020-12") then Some draft_2020_12
     else None
+
+-- the choice of colors that a word names
+abbrev pub color_named : Text → Option Color
+color_named name =
+    if bytes_eq name (codes "auto") then Some color.Auto
+    else if bytes_eq name (codes "always") then Some color.Always
+    else if bytes_eq name (codes "never") then Some color.Never
+    else None
+
+-- how verdicts are painted by a choice, on an output that shows colors or not
+abbrev pub paint_by : Color → Bool → Paint
+paint_by color.Auto shows = if shows then paint.Coloured else paint.Plain
+paint_by color.Always shows = paint.Coloured
+paint_by color.Never shows = paint.Plain

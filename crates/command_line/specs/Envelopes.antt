@@ -23,6 +23,10 @@ front_text output schema instance line = codes "{\"output\":" ++ quoted (name_of
 abbrev pub answered_text : Output → Text → Text → Option ℕ → Text → Text
 answered_text output schema instance line payload = front_text output schema instance line ++ codes ",\"payload\":" ++ payload ++ codes "}" ++ 10 ∷ []
 
+-- the object without an answer, with the reason
+abbrev pub unanswered_text : Output → Text → Text → Option ℕ → Text → Text
+unanswered_text output schema instance line why = front_text output schema instance line ++ codes ",\"error\":" ++ quoted why ++ codes "}" ++ 10 ∷ []
+
 -- ---- the same for the subject that the code is given
 
 abbrev pub members_for : Subject → Text
@@ -33,3 +37,6 @@ front_for output s = front_text output s.schema.now s.instance.now s.line
 
 abbrev pub answered_for : Output → Subject → Text → Text
 answered_for output s payload = answered_text output s.schema.now s.instance.now s.line payload
+
+abbrev pub unanswered_for : Output → Subject → Text → Text
+unanswered_for output s why = unanswered_text output s.schema.now s.instance.now s.line why

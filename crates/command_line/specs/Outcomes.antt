@@ -10,8 +10,9 @@ code_of outcome.Accepted = 0
 code_of outcome.Refused = 1
 code_of outcome.Unanswered = 2
 
--- the outcome of a run; it is unanswered if it was stopped or an answer could not be written
-abbrev pub outcome_told : Bool → Result Outcome Stop → Outcome
-outcome_told true answered = outcome.Unanswered
-outcome_told false (Ok o) = o
-outcome_told false (Err stop) = outcome.Unanswered
+-- the outcome of a run whose instances had this outcome together; it is unanswered if the run was
+-- stopped or an answer could not be written
+abbrev pub outcome_told : Bool → Outcome → Result (Unit {0}) Stop → Outcome
+outcome_told true o ended = outcome.Unanswered
+outcome_told false o (Ok done) = o
+outcome_told false o (Err stop) = outcome.Unanswered

@@ -1,8 +1,8 @@
 -- The words for verdicts, as they are printed.
 use Rattle.std.specs.Prelude.{Bool, codes, false, true, ◌++◌, ◌∷◌}
 use Rattle.theory_definitions.specs.Instance.{Text}
-use Rattle.command_line.specs.declared.reports.Paint.{Paint}
-use Rattle.command_line.specs.declared.reports.Paint.TheVariants.{Coloured, Plain}
+use Rattle.command_line.specs.declared.styles.Paint.{Paint}
+use Rattle.command_line.specs.declared.styles.Paint.TheVariants.{Coloured, Plain}
 
 -- the word for a verdict: if it is coloured, green for valid and red for invalid (ECMA-48, 8.3.117)
 abbrev pub verdict_text : Paint → Bool → Text

@@ -1,14 +1,15 @@
 //! Answers for instances, one by one.
-ghost use Rattle.std.specs.Prelude.{◌≤◌, IfOk};
+ghost use Rattle.std.specs.Prelude.{◌≡◌, ◌≤◌, Bool, IfOk, false};
 ghost use Rattle.command_line.specs.Outcomes.{code_of};
+ghost use Rattle.command_line.specs.Tallies.{NoBetter};
 
 use crate::desk::{Desk, Stop};
 use crate::envelopes::Subject;
 use crate::files::answer_files;
 use crate::line_files::answer_lines;
-use crate::options::{Options, Output};
+use crate::options::Options;
 use crate::outcomes::Outcome;
-use crate::reports::Paint;
+use crate::styles::Style;
 use schema_reports::OutOfMemory;
 use serde_json::Value;
 use std::alloc::Global;
@@ -18,10 +19,13 @@ pub type Answer = Result<(Outcome, String), OutOfMemory>;
 
 /// Validates instances against one schema, and returns the texts to print.
 pub trait Answerer {
+    /// Whether an instance may stay without an answer, at a limit.
+    ghost limited: { Self → Bool };
+
     /// Answers for an instance; nothing is printed if the text is empty.
     ///
     /// For an instance that is a file, the text lists every error; for one that is a line, the
-    /// first error.
+    /// first error. An instance stays without an answer only at a limit; the text says which.
     ///
     /// # Errors
     ///
@@ -29,26 +33,28 @@ pub trait Answerer {
     fn answer(
         &self,
         alloc: Global,
-        paint: Paint,
-        output: Output,
+        style: Style,
         subject: Subject<'_>,
         instance: &Value,
     ) -> Answer
-        ensures answered { IfOk result (λ a. code_of a.0 ≤ 1) };
+        ensures answered { Self.limited self.now ≡ false → IfOk result (λ a. code_of a.0 ≤ 1) };
 }
 
 /// Answers for each file that the options name.
 ///
-/// Then answers for the lines, if the options name a file of lines.
+/// Then answers for the lines, if the options name a file of lines. The desk's tally counts each
+/// instance.
 pub fn answer_by<A: Answerer>(
     rt: &HostRuntime,
     desk: &mut Desk,
     options: &Options<'_>,
     answerer: &A,
-) -> Result<Outcome, Stop> {
-    let files = answer_files(rt, desk, options, answerer)?;
+) -> Result<(), Stop>
+    ensures no_better { NoBetter desk.old.tally desk.new.tally }
+{
+    answer_files(rt, desk, options, answerer)?;
     match options.lines {
-        Some(file) => Ok(files.and(answer_lines(rt, desk, options, answerer, file)?)),
-        None => Ok(files),
+        Some(file) => answer_lines(rt, desk, options, answerer, file),
+        None => Ok(()),
     }
 }

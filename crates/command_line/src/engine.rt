@@ -20,7 +20,7 @@ pub trait Engine {
         options: &Options<'_>,
         schema: &Value,
         documents: &[Document<'_>],
-    ) -> Result<Outcome, Stop>;
+    ) -> Result<(), Stop>;
 }
 
 /// Answers by a schema, after reading the documents that it may refer to.
@@ -30,7 +30,7 @@ fn answer_by_schema<E: Engine>(
     options: &Options<'_>,
     engine: &E,
     schema: &Value,
-) -> Result<Outcome, Stop> {
+) -> Result<(), Stop> {
     let documents = documents_of(rt, options.resources.as_slice())?;
     let answered = engine.answer(rt, desk, options, schema, documents.as_slice());
     drop(documents);
@@ -42,7 +42,7 @@ fn answer<E: Engine>(
     desk: &mut Desk,
     options: &Options<'_>,
     engine: &E,
-) -> Result<Outcome, Stop> {
+) -> Result<(), Stop> {
     let schema = value_of(rt, options.schema)?;
     let answered = answer_by_schema(rt, desk, options, engine, &schema);
     drop(schema);
@@ -51,7 +51,7 @@ fn answer<E: Engine>(
 
 /// Answers as the options request, and reports why if there is no answer.
 fn run<E: Engine>(rt: &HostRuntime, options: &Options<'_>, engine: &E) -> Outcome {
-    let mut desk = Desk::new(rt);
+    let mut desk = Desk::new(rt, options);
     let answered = answer(rt, &mut desk, options, engine);
     let outcome = desk.outcome_of(rt, answered);
     drop(desk);

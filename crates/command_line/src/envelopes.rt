@@ -1,12 +1,11 @@
 //! The output for programs: a JSON object on a line for each instance or line.
 ghost use Rattle.std.specs.Prelude.{◌≡◌, string_bytes};
 ghost use Rattle.json.specs.Print.{quoted};
-ghost use Rattle.command_line.specs.Envelopes.{line_text, answered_for, front_for, members_for};
+ghost use Rattle.command_line.specs.Envelopes.{answered_for, front_for, line_text, members_for, unanswered_for};
 ghost use Rattle.command_line.specs.Verdicts.{flag_text};
 ghost use Rattle.schema_reports.specs.Showing.{Shows, Adds};
 
 use crate::options::Output;
-use crate::reports::line_fault;
 use schema_reports::OutOfMemory;
 use serde_json::Value;
 use std::alloc::Global;
@@ -106,21 +105,22 @@ pub fn flag(valid: bool) -> &'static str
     }
 }
 
-/// Returns the object printed for a line that is not JSON, with the fault.
+/// Returns the object printed for an instance without an answer, with the reason.
 ///
 /// # Errors
 ///
 /// Out of memory.
-pub fn unread(
+pub fn unanswered(
     alloc: Global,
     output: Output,
     subject: Subject<'_>,
-    fault: &serde_json::Error,
-) -> Result<String, OutOfMemory> {
-    let told = line_fault(alloc, fault)?;
+    why: &str,
+) -> Result<String, OutOfMemory>
+    ensures text { Shows string_bytes result (unanswered_for output subject.entry why.now) }
+{
     let mut text = envelope_front(alloc, output, subject)?;
     text.push_str(",\"error\":")?;
-    push_quoted(&mut text, alloc, told.as_str())?;
+    push_quoted(&mut text, alloc, why)?;
     text.push_str("}\n")?;
     Ok(text)
 }

@@ -17,6 +17,7 @@ mod outcomes;
 mod pages;
 mod reading;
 mod reports;
+mod styles;
 mod tally;
 mod telling;
 mod watch;
@@ -26,13 +27,16 @@ pub use answerer::{Answer, Answerer, answer_by};
 pub use desk::{Desk, Stop};
 pub use documents::{Document, documents_of};
 pub use engine::{Engine, answer_call};
-pub use envelopes::{Subject, answered, flag, unread};
+pub use envelopes::{Subject, answered, flag, unanswered};
 pub use lines::{cut_ending, is_blank};
 pub use options::{Options, Output, Resource, STANDARD_INPUT, draft_named};
 pub use outcomes::Outcome;
 pub use pages::Page;
-pub use reading::value_of;
-pub use reports::{Paint, fault_report, file_report, line_fault, line_report, unread_report};
+pub use reading::{Fault, value_of};
+pub use reports::{
+    fault_report, file_report, line_fault, line_report, unanswered_report, unread_report,
+};
+pub use styles::{Color, Paint, Style};
 pub use tally::Tally;
 pub use telling::{tell, tell_unparsed, tell_unread};
 pub use watch::Watch;

@@ -1,12 +1,13 @@
 //! Answers for files with an instance on each line, read line by line.
+ghost use Rattle.command_line.specs.Tallies.{NoBetter};
 
 use crate::answerer::Answerer;
 use crate::desk::{Desk, Stop};
-use crate::envelopes::{Subject, unread};
+use crate::envelopes::{Subject, unanswered};
 use crate::lines::{cut_ending, is_blank};
 use crate::options::{Options, Output, STANDARD_INPUT};
 use crate::outcomes::Outcome;
-use crate::reports::unread_report;
+use crate::reports::{line_fault, unread_report};
 use crate::tally::Tally;
 use crate::telling::tell_unread;
 use crate::watch::Watch;
@@ -42,20 +43,28 @@ impl<'a, 'w> Asked<'a, 'w> {
         desk: &mut Desk,
         number: u64,
         instance: &Value,
-    ) -> Result<Outcome, OutOfMemory> {
+    ) -> Result<Outcome, OutOfMemory>
+        ensures no_better { NoBetter desk.old.tally desk.new.tally }
+    {
         let subject = self.subject(number);
         let alloc = self.rt.alloc();
-        let answer = answerer.answer(alloc, desk.paint, self.options.output, subject, instance)?;
-        Ok(desk.write(answer))
+        let answer = answerer.answer(alloc, desk.style, subject, instance)?;
+        let outcome = answer.0;
+        desk.write(answer);
+        Ok(outcome)
     }
 
     /// Returns the text printed for a line that is not JSON.
     fn unread(&self, number: u64, fault: &serde_json::Error) -> Result<String, OutOfMemory> {
         let alloc = self.rt.alloc();
-        match self.options.output {
-            Output::Text => unread_report(alloc, self.file, number, fault),
-            output => unread(alloc, output, self.subject(number), fault),
-        }
+        let subject = self.subject(number);
+        let why = line_fault(alloc, fault)?;
+        let text = match self.options.output {
+            Output::Text => unread_report(alloc, subject, why.as_str()),
+            output => unanswered(alloc, output, subject, why.as_str()),
+        };
+        drop(why);
+        text
     }
 
     fn take<A: Answerer>(
@@ -64,7 +73,9 @@ impl<'a, 'w> Asked<'a, 'w> {
         desk: &mut Desk,
         number: u64,
         line: &[u8],
-    ) -> Result<Outcome, OutOfMemory> {
+    ) -> Result<Outcome, OutOfMemory>
+        ensures no_better { NoBetter desk.old.tally desk.new.tally }
+    {
         match Value::from_slice(self.rt.alloc(), line) {
             Ok(instance) => {
                 let outcome = self.answer(answerer, desk, number, &instance);
@@ -72,7 +83,12 @@ impl<'a, 'w> Asked<'a, 'w> {
                 outcome
             }
             Err(fault) if fault.is_memory() => Err(AllocError),
-            Err(fault) => Ok(desk.write((Outcome::Unanswered, self.unread(number, &fault)?))),
+            Err(fault) => {
+                let text = self.unread(number, &fault);
+                drop(fault);
+                desk.write((Outcome::Unanswered, text?));
+                Ok(Outcome::Unanswered)
+            }
         }
     }
 
@@ -84,7 +100,9 @@ impl<'a, 'w> Asked<'a, 'w> {
         number: u64,
         line: &[u8],
         tally: &mut Tally,
-    ) -> Result<(), OutOfMemory> {
+    ) -> Result<(), OutOfMemory>
+        ensures no_better { NoBetter desk.old.tally desk.new.tally }
+    {
         if !is_blank(line) {
             tally.count(self.take(answerer, desk, number, line)?);
         }
@@ -102,7 +120,9 @@ impl<'a, 'w> Asked<'a, 'w> {
         line: &mut Vec<u8>,
         number: u64,
         tally: &mut Tally,
-    ) -> Result<bool, Stop> {
+    ) -> Result<bool, Stop>
+        ensures no_better { NoBetter desk.old.tally desk.new.tally }
+    {
         line.clear();
         match reader.read_until(b'\n', line) {
             Ok(0) => Ok(false),
@@ -122,7 +142,9 @@ impl<'a, 'w> Asked<'a, 'w> {
         reader: &mut R,
         tally: &mut Tally,
         watch: &mut Watch,
-    ) -> Result<(), Stop> {
+    ) -> Result<(), Stop>
+        ensures no_better { NoBetter desk.old.tally desk.new.tally }
+    {
         let mut line = Vec::new(self.rt.alloc());
         for number in 1..u64::MAX {
             if !self.answer_next(answerer, desk, reader, &mut line, number, tally)? {
@@ -143,7 +165,9 @@ impl<'a, 'w> Asked<'a, 'w> {
         answerer: &A,
         desk: &mut Desk,
         reader: R,
-    ) -> Result<Outcome, Stop> {
+    ) -> Result<(), Stop>
+        ensures no_better { NoBetter desk.old.tally desk.new.tally }
+    {
         let Ok(mut reader) = BufReader::with_capacity(self.rt.alloc(), AT_ONCE, reader) else {
             return Err(Stop::OutOfMemory);
         };
@@ -151,9 +175,8 @@ impl<'a, 'w> Asked<'a, 'w> {
         let mut watch = Watch::new(self.rt);
         let ended = self.answer_each(answerer, desk, &mut reader, &mut tally, &mut watch);
         drop(reader);
-        watch.sum_up(self.rt, desk, self.options.output, self.file, &tally)?;
-        ended?;
-        Ok(tally.outcome())
+        watch.sum_up(self.rt, desk, self.file, &tally)?;
+        ended
     }
 }
 
@@ -164,7 +187,9 @@ pub(crate) fn answer_lines<A: Answerer>(
     options: &Options<'_>,
     answerer: &A,
     file: &str,
-) -> Result<Outcome, Stop> {
+) -> Result<(), Stop>
+    ensures no_better { NoBetter desk.old.tally desk.new.tally }
+{
     let asked = Asked { rt, options, file };
     if file == STANDARD_INPUT {
         return asked.answer_reader(answerer, desk, rt.stdin());

@@ -3,6 +3,7 @@ ghost use Rattle.std.specs.Prelude.{◌≡◌, ◌++◌, ◌∷◌, IfSome, opti
 ghost use Rattle.schema_drafts.specs.KeywordViews.{draft_of};
 ghost use Rattle.command_line.specs.Choices.{draft_named, name_of, output_named};
 
+use crate::styles::Color;
 use schema_drafts::Draft;
 
 /// The word for standard input.
@@ -86,14 +87,21 @@ impl<'w> Resource<'w> {
 #[derive(Drop)]
 pub struct Options<'w> {
     pub schema: &'w str,
-    /// Files of one instance each.
+    /// Files of one instance each, and folders of such files.
     pub instances: Vec<&'w str>,
     /// A file with an instance on each line.
     pub lines: Option<&'w str>,
     pub resources: Vec<Resource<'w>>,
     /// The draft of the schema, whatever its `$schema` says.
     pub draft: Option<Draft>,
+    /// Whether formats are asserted, if that is chosen.
+    pub formats: Option<bool>,
     pub output: Output,
+    pub color: Color,
+    /// Whether nothing is written to standard output.
+    pub quiet: bool,
+    /// Whether long values are shown whole.
+    pub verbose: bool,
     /// Whether the schema is checked against its meta-schema.
     pub checked: bool,
     pub run_limit: Option<u32>,

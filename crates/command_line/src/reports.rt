@@ -3,15 +3,10 @@ ghost use Rattle.std.specs.Prelude.{◌≡◌};
 ghost use Rattle.command_line.specs.Verdicts.{verdict_text};
 ghost use Rattle.schema_reports.specs.Showing.{Adds};
 
+use crate::envelopes::Subject;
+use crate::styles::{Paint, Style};
 use schema_reports::{ErrorIterator, OutOfMemory, ValidationError};
 use std::alloc::Global;
-
-/// Whether verdicts are coloured, for a terminal.
-#[derive(Clone, Copy, Debug, PartialEq, Eq)]
-pub enum Paint {
-    Plain,
-    Coloured,
-}
 
 /// Returns the word for a verdict, green or red if it is coloured.
 fn verdict_word(paint: Paint, accepted: bool) -> &'static str
@@ -51,6 +46,27 @@ fn push_shown(text: &mut String, part: &str) -> Result<(), OutOfMemory> {
     Ok(())
 }
 
+/// The number of characters of a long text that are shown at each of its ends.
+const SHOWN: usize = 80;
+
+/// Adds a text of an error, on one line.
+///
+/// Unless it is to be shown whole, a long text loses what stands between its ends.
+fn push_told(text: &mut String, style: Style, told: &str) -> Result<(), OutOfMemory> {
+    let count = told.chars().count();
+    if style.whole || count <= 2 * SHOWN {
+        return push_shown(text, told);
+    }
+    for c in told.chars().take(SHOWN) {
+        push_shown_char(text, c)?;
+    }
+    text.push_str(" … ")?;
+    for c in told.chars().skip(count - SHOWN) {
+        push_shown_char(text, c)?;
+    }
+    Ok(())
+}
+
 /// Adds a pointer, or `(root)` if it is empty.
 fn push_pointer(text: &mut String, pointer: &str) -> Result<(), OutOfMemory> {
     if pointer.is_empty() {
@@ -76,11 +92,12 @@ fn push_place(
 fn push_error(
     text: &mut String,
     alloc: Global,
+    style: Style,
     number: u64,
     error: &ValidationError,
 ) -> Result<(), OutOfMemory> {
     write!(text, "{number}. ")?;
-    push_shown(text, error.text.as_str())?;
+    push_told(text, style, error.text.as_str())?;
     text.push_str("\n   ")?;
     push_place(text, alloc, error)?;
     text.push_str("\n")
@@ -95,29 +112,30 @@ fn push_error(
 /// Out of memory.
 pub fn file_report(
     alloc: Global,
-    paint: Paint,
-    file: &str,
+    style: Style,
+    subject: Subject<'_>,
     errors: ErrorIterator,
 ) -> Result<String, OutOfMemory> {
     let accepted = errors.size_hint().0 == 0;
-    let mut text = String::new(alloc);
-    push_shown(&mut text, file)?;
-    text.push_str(" - ")?;
-    push_verdict(&mut text, paint, accepted)?;
+    let mut text = subject_front(alloc, subject)?;
+    push_verdict(&mut text, style.paint, accepted)?;
     text.push_str(if accepted { "\n" } else { ". Errors:\n" })?;
     let mut number = 0u64;
     for error in errors {
         number = number.saturating_add(1);
-        push_error(&mut text, alloc, number, &error)?;
+        push_error(&mut text, alloc, style, number, &error)?;
     }
     Ok(text)
 }
 
-/// Returns the front of the text for a line: `FILE:12 - `.
-fn line_front(alloc: Global, file: &str, number: u64) -> Result<String, OutOfMemory> {
+/// Returns the front of the text for an instance: `FILE - `, or `FILE:12 - ` for a line.
+fn subject_front(alloc: Global, subject: Subject<'_>) -> Result<String, OutOfMemory> {
     let mut text = String::new(alloc);
-    push_shown(&mut text, file)?;
-    write!(text, ":{number} - ")?;
+    push_shown(&mut text, subject.instance)?;
+    if let Some(number) = subject.line {
+        write!(text, ":{number}")?;
+    }
+    text.push_str(" - ")?;
     Ok(text)
 }
 
@@ -130,15 +148,14 @@ fn line_front(alloc: Global, file: &str, number: u64) -> Result<String, OutOfMem
 /// Out of memory.
 pub fn line_report(
     alloc: Global,
-    paint: Paint,
-    file: &str,
-    number: u64,
+    style: Style,
+    subject: Subject<'_>,
     error: &ValidationError,
 ) -> Result<String, OutOfMemory> {
-    let mut text = line_front(alloc, file, number)?;
-    push_verdict(&mut text, paint, false)?;
+    let mut text = subject_front(alloc, subject)?;
+    push_verdict(&mut text, style.paint, false)?;
     text.push_str(". ")?;
-    push_shown(&mut text, error.text.as_str())?;
+    push_told(&mut text, style, error.text.as_str())?;
     text.push_str(" (")?;
     push_place(&mut text, alloc, error)?;
     text.push_str(")\n")?;
@@ -169,6 +186,36 @@ pub fn line_fault(alloc: Global, fault: &serde_json::Error) -> Result<String, Ou
     Ok(text)
 }
 
+/// Returns the text for an instance without an answer: a word for it, and the reason.
+fn missing_report(
+    alloc: Global,
+    subject: Subject<'_>,
+    word: &str,
+    why: &str,
+) -> Result<String, OutOfMemory> {
+    let mut text = subject_front(alloc, subject)?;
+    text.push_str(word)?;
+    text.push_str(". ")?;
+    push_shown(&mut text, why)?;
+    text.push_str("\n")?;
+    Ok(text)
+}
+
+/// Returns the text for an instance that no answer was found for.
+///
+/// It is `FILE - NO ANSWER. ` or `FILE:12 - NO ANSWER. `, and the reason.
+///
+/// # Errors
+///
+/// Out of memory.
+pub fn unanswered_report(
+    alloc: Global,
+    subject: Subject<'_>,
+    why: &str,
+) -> Result<String, OutOfMemory> {
+    missing_report(alloc, subject, "NO ANSWER", why)
+}
+
 /// Returns the text for a line that is not JSON.
 ///
 /// It is `FILE:12 - NOT JSON. `, and the fault.
@@ -178,15 +225,10 @@ pub fn line_fault(alloc: Global, fault: &serde_json::Error) -> Result<String, Ou
 /// Out of memory.
 pub fn unread_report(
     alloc: Global,
-    file: &str,
-    number: u64,
-    fault: &serde_json::Error,
+    subject: Subject<'_>,
+    fault: &str,
 ) -> Result<String, OutOfMemory> {
-    let mut text = line_front(alloc, file, number)?;
-    text.push_str("NOT JSON. ")?;
-    text.push_str(line_fault(alloc, fault)?.as_str())?;
-    text.push_str("\n")?;
-    Ok(text)
+    missing_report(alloc, subject, "NOT JSON", fault)
 }
 
 /// Returns the text printed if there is no answer.

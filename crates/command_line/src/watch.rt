@@ -2,7 +2,6 @@
 ghost use Rattle.std.specs.Prelude.{◌≡◌, ◌+◌, ◌≤◌, ◌⊎◌, IfSome, IsNone};
 
 use crate::desk::Desk;
-use crate::options::Output;
 use crate::tally::Tally;
 use schema_reports::OutOfMemory;
 use std::time::Instant;
@@ -63,14 +62,16 @@ impl Watch {
     {
         if let Some(millis) = self.to_tell(rt) {
             let rate = tally.rate(millis);
-            let _ = eprintln!(rt; "{file}: {tally}, {rate} lines a second");
+            let (lines, refused, unanswered) = (tally.instances, tally.refused, tally.unanswered);
+            let _ = eprintln!(rt;
+                "{file}: {lines} lines: {refused} refused, {unanswered} unanswered, {rate} lines a second"
+            );
         }
     }
 
     /// Reports the counts of a file's lines, and how long they took.
     ///
-    /// The counts go to the desk if the output is text, and otherwise to standard error. The time
-    /// goes to standard error.
+    /// The counts go where the desk says what sums up, and the time to standard error.
     ///
     /// # Errors
     ///
@@ -79,18 +80,17 @@ impl Watch {
         &self,
         rt: &HostRuntime,
         desk: &mut Desk,
-        output: Output,
         file: &str,
         tally: &Tally,
-    ) -> Result<(), OutOfMemory> {
-        let text = format!(in rt.alloc(); "{file}: {tally}\n")?;
-        match output {
-            Output::Text => desk.page.put(text.as_str()),
-            _ => {
-                let _ = eprint!(rt; "{text}");
-            }
-        }
-        drop(text);
+    ) -> Result<(), OutOfMemory>
+        ensures tally { desk.new.tally ≡ desk.old.tally }
+    {
+        let counts = tally.text(rt.alloc(), "lines")?;
+        let line = format!(in rt.alloc(); "{file}: {counts}");
+        drop(counts);
+        let line = line?;
+        desk.say(rt, line.as_str());
+        drop(line);
         if let Some(millis) = self.millis(rt) {
             let rate = tally.rate(millis);
             let _ = eprintln!(rt; "{file}: {millis} ms, {rate} lines a second");

@@ -5,6 +5,7 @@ ghost use Rattle.command_line.specs.Outcomes.{code_of};
 
 use crate::options::{Options, Output, Resource, draft_named};
 use crate::outcomes::Outcome;
+use crate::styles::Color;
 use clap::error::ErrorKind;
 use clap::{Arg, ArgAction, ArgMatches, Command, Error};
 use schema_reports::OutOfMemory;
@@ -15,13 +16,17 @@ static DRAFTS: [&str; 5] = ["4", "6", "7", "2019-09", "2020-12"];
 
 static OUTPUTS: [&str; 3] = ["text", "flag", "list"];
 
+static COLORS: [&str; 3] = ["auto", "always", "never"];
+
 const ABOUT: &str = "Checks JSON by a JSON Schema, of drafts 4, 6, 7, 2019-09 and 2020-12.";
 
 const AFTER: &str =
-    "FILE and SCHEMA may be '-', once, which is standard input. With neither -i nor --lines the schema alone is checked.
+    "FILE and SCHEMA may be '-', once, which is standard input. A folder stands for its .json files. With neither FILE nor --lines the
+schema alone is checked.
 
 The status is 0 where all is accepted, 1 where one instance is refused, and 2 where one has no answer: a file that cannot be
-read, text that is not JSON, a schema that is refused, words that are wrong, memory that cannot be had, or a write that failed.";
+read, text that is not JSON, a schema that is refused, a limit that is reached, words that are wrong, memory that cannot be had, or a
+write that failed.";
 
 /// Returns an option that takes a value.
 fn option<'a>(alloc: Global, name: &'a str, value: &'a str, help: &'a str) -> Arg<'a> {
@@ -47,8 +52,15 @@ fn schema_word<'a>(alloc: Global) -> Arg<'a> {
         .help("The file of the schema")
 }
 
+fn file_words<'a>(alloc: Global) -> Arg<'a> {
+    Arg::new(alloc, "file")
+        .value_name("FILE")
+        .action(ArgAction::Append)
+        .help("Files of one instance each, or folders of such files")
+}
+
 fn instance_option<'a>(alloc: Global) -> Arg<'a> {
-    let help = "A file of an instance; may be given again";
+    let help = "A file of an instance, like FILE; may be given again";
     option(alloc, "instance", "FILE", help)
         .short('i')
         .action(ArgAction::Append)
@@ -86,6 +98,35 @@ fn progress_flag<'a>(alloc: Global) -> Result<Arg<'a>, OutOfMemory> {
     flag(alloc, "progress", help).requires_arg("lines")
 }
 
+fn assert_flag<'a>(alloc: Global) -> Arg<'a> {
+    let help = "Asserts formats; else drafts 4, 6 and 7 alone do";
+    flag(alloc, "assert-format", help)
+}
+
+fn no_assert_flag<'a>(alloc: Global) -> Result<Arg<'a>, OutOfMemory> {
+    let help = "Asserts no formats";
+    flag(alloc, "no-assert-format", help).conflicts_with("assert-format")
+}
+
+fn color_option<'a>(alloc: Global) -> Arg<'a> {
+    let help = "When verdicts are coloured: auto for a terminal, unless NO_COLOR is set";
+    option(alloc, "color", "WHEN", help)
+        .value_parser(COLORS.as_slice())
+        .default_value("auto")
+}
+
+fn quiet_flag<'a>(alloc: Global) -> Arg<'a> {
+    let help = "Writes nothing to standard output; the status says the answer";
+    flag(alloc, "quiet", help).short('q')
+}
+
+fn verbose_flag<'a>(alloc: Global) -> Result<Arg<'a>, OutOfMemory> {
+    let help = "Shows long values whole";
+    flag(alloc, "verbose", help)
+        .short('v')
+        .conflicts_with("quiet")
+}
+
 fn run_limit_option<'a>(alloc: Global) -> Arg<'a> {
     let help = "How many runs an instance takes at most where matches stay unfinished; else 64";
     option(alloc, "run-limit", "N", help).value_parser(clap::value_parser!(u32).range(1..))
@@ -106,16 +147,28 @@ fn nested_limit_option<'a>(alloc: Global) -> Arg<'a> {
 /// Arguments are made one after the other, so that few of them have to be dropped at each exit.
 fn files<'a>(alloc: Global, command: Command<'a>) -> Result<Command<'a>, OutOfMemory> {
     let command = command.arg(schema_word(alloc))?;
+    let command = command.arg(file_words(alloc))?;
     let command = command.arg(instance_option(alloc))?;
     let command = command.arg(lines_option(alloc))?;
     command.arg(resource_option(alloc))
 }
 
-/// Adds the options that choose how the command answers.
+/// Adds the options that choose how schemas are read.
 fn manners<'a>(alloc: Global, command: Command<'a>) -> Result<Command<'a>, OutOfMemory> {
     let command = command.arg(draft_option(alloc))?;
+    let command = command.arg(assert_flag(alloc))?;
+    let unasserted = no_assert_flag(alloc)?;
+    let command = command.arg(unasserted)?;
+    command.arg(unchecked_flag(alloc))
+}
+
+/// Adds the options that choose what is shown.
+fn outputs<'a>(alloc: Global, command: Command<'a>) -> Result<Command<'a>, OutOfMemory> {
     let command = command.arg(output_option(alloc))?;
-    let command = command.arg(unchecked_flag(alloc))?;
+    let command = command.arg(color_option(alloc))?;
+    let command = command.arg(quiet_flag(alloc))?;
+    let verbose = verbose_flag(alloc)?;
+    let command = command.arg(verbose)?;
     let progress = progress_flag(alloc)?;
     command.arg(progress)
 }
@@ -132,7 +185,7 @@ fn command<'a>(alloc: Global) -> Result<Command<'a>, OutOfMemory> {
         .version("0.1.0")
         .about(ABOUT)
         .after_help(AFTER);
-    limits(alloc, manners(alloc, files(alloc, command)?)?)
+    limits(alloc, outputs(alloc, manners(alloc, files(alloc, command)?)?)?)
 }
 
 fn values_of<'w>(
@@ -143,6 +196,29 @@ fn values_of<'w>(
     match matches.get_strs(id) {
         Some(values) => Vec::from_slice(alloc, values),
         None => Ok(Vec::new(alloc)),
+    }
+}
+
+/// Returns the files and folders of instances that the matches name.
+fn instances_of<'w>(
+    alloc: Global,
+    matches: &ArgMatches<'w>,
+) -> Result<Vec<&'w str>, OutOfMemory> {
+    let mut files = values_of(alloc, matches, "file")?;
+    if let Some(more) = matches.get_strs("instance") {
+        files.extend_from_slice(more)?;
+    }
+    Ok(files)
+}
+
+/// Returns whether formats are asserted, if the matches choose it.
+fn formats_of(matches: &ArgMatches<'_>) -> Option<bool> {
+    if matches.get_flag("assert-format") {
+        Some(true)
+    } else if matches.get_flag("no-assert-format") {
+        Some(false)
+    } else {
+        None
     }
 }
 
@@ -170,14 +246,21 @@ fn options_of<'w>(
 ) -> Result<Options<'w>, OutOfMemory> {
     Ok(Options {
         schema: matches.get_str("schema").unwrap_or("-"),
-        instances: values_of(alloc, matches, "instance")?,
+        instances: instances_of(alloc, matches)?,
         lines: matches.get_str("lines"),
         resources,
         draft: matches.get_str("draft").and_then(draft_named),
+        formats: formats_of(matches),
         output: matches
             .get_str("output")
             .and_then(Output::named)
             .unwrap_or(Output::Text),
+        color: matches
+            .get_str("color")
+            .and_then(Color::named)
+            .unwrap_or(Color::Auto),
+        quiet: matches.get_flag("quiet"),
+        verbose: matches.get_flag("verbose"),
         checked: !matches.get_flag("no-check"),
         run_limit: matches.get_one::<u32>("run-limit"),
         work_limit: matches.get_one::<u64>("work-limit"),
