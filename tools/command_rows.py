@@ -53,12 +53,21 @@ FILES = {
     "good.lines": "1\n2\n3",
     "none.lines": "",
     "bytes.lines": b'1\n"\xff"\n2\n',
+    "marked.json": b"\xef\xbb\xbf1",
+    "texts.json": '{"enum": [1]}',
+    "long.json": '"' + "x" * 500 + '"',
+    "folder/b.json": '"text"',
+    "folder/a.json": "1",
+    "folder/c.txt": "{",
+    "steps.json": '{"items": {"allOf": [{"minimum": 0}, {"minimum": 0}, {"minimum": 0}]}}',
+    "steps.in": "[1, -1]",
+    "mail.json": '{"format": "email"}',
 }
 
 LINES_TEXT = (
     'lines:4 - INVALID. "x" is not of type "number" (instance: (root); schema: /type)\n'
     "lines:5 - NOT JSON. EOF while parsing at column 1\n"
-    "lines: 5 lines: 1 refused, 1 not JSON\n"
+    "lines: 5 lines: 1 refused, 1 unanswered\n"
 )
 
 BOB = (
@@ -69,6 +78,8 @@ BOB = (
     "   instance: /age; schema: /properties/age/type\n"
 )
 
+TEXT = 'text.json - INVALID. Errors:\n1. "text" is not of type "number"\n   instance: (root); schema: /type\n'
+
 # a name, the words, standard input, the status, standard output, and texts that standard error has to hold
 ROWS = [
     ("a schema alone", ["number.json"], "", 0, "the schema is accepted\n", []),
@@ -76,7 +87,28 @@ ROWS = [
     ("the long word", ["number.json", "--instance", "1.json"], "", 0, "1.json - VALID\n", []),
     ("words in another order", ["-i", "1.json", "number.json"], "", 0, "1.json - VALID\n", []),
     ("an instance that is refused", ["person.json", "-i", "bob.json"], "", 1, BOB, []),
-    ("two instances", ["person.json", "-i", "ann.json", "-i", "bob.json"], "", 1, "ann.json - VALID\n" + BOB, []),
+    ("two instances", ["person.json", "-i", "ann.json", "-i", "bob.json"], "", 1,
+     "ann.json - VALID\n" + BOB + "2 files: 1 refused, 0 unanswered\n", []),
+    ("the last instance does not decide the status", ["person.json", "bob.json", "ann.json"], "", 1,
+     BOB + "ann.json - VALID\n2 files: 1 refused, 0 unanswered\n", []),
+    ("one error is enough", ["number.json", "text.json"], "", 1, TEXT, []),
+    ("files as words, and by an option", ["number.json", "1.json", "-i", "3.json"], "", 0,
+     "1.json - VALID\n3.json - VALID\n2 files: 0 refused, 0 unanswered\n", []),
+    ("a folder", ["number.json", "folder"], "", 1,
+     "folder/a.json - VALID\n" + TEXT.replace("text.json", "folder/b.json") + "2 files: 1 refused, 0 unanswered\n", []),
+    ("a byte order mark", ["number.json", "marked.json"], "", 0, "marked.json - VALID\n", []),
+    ("quiet", ["number.json", "text.json", "--quiet"], "", 1, "", []),
+    ("coloured, whatever it is written to", ["number.json", "1.json", "--color", "always"], "", 0, "1.json - \x1b[32mVALID\x1b[0m\n", []),
+    ("a color that is none", ["number.json", "1.json", "--color", "red"], "", 2, "", ["auto, always, never"]),
+    ("a long value", ["texts.json", "long.json"], "", 1,
+     'long.json - INVALID. Errors:\n1. "' + "x" * 79 + " … " + "x" * 63 + '" is not one of 1\n   instance: (root); schema: /enum\n', []),
+    ("a long value, whole", ["texts.json", "long.json", "--verbose"], "", 1,
+     'long.json - INVALID. Errors:\n1. "' + "x" * 500 + '" is not one of 1\n   instance: (root); schema: /enum\n', []),
+    ("formats asserted", ["mail.json", "text.json", "--assert-format", "--output", "flag"], "", 1,
+     '{"output":"flag","schema":"mail.json","instance":"text.json","payload":{"valid":false}}\n', []),
+    ("formats not asserted", ["mail.json", "text.json", "--draft", "7", "--no-assert-format"], "", 0, "text.json - VALID\n", []),
+    ("formats in draft 7", ["mail.json", "text.json", "--draft", "7", "--quiet"], "", 1, "", []),
+    ("formats both ways", ["mail.json", "--assert-format", "--no-assert-format"], "", 2, "", ["--no-assert-format"]),
     ("the schema from standard input", ["-", "-i", "1.json"], '{"type":"string"}', 1,
      '1.json - INVALID. Errors:\n1. 1 is not of type "string"\n   instance: (root); schema: /type\n', []),
     ("the instance from standard input", ["number.json", "-i", "-"], "7", 0, "- - VALID\n", []),
@@ -92,10 +124,12 @@ ROWS = [
     ("the version", ["--version"], "", 0, "jsonschema 0.1.0\n", []),
     ("no such schema", ["none.json", "-i", "1.json"], "", 2, "", ["none.json cannot be read: "]),
     ("no such instance, and the next is answered", ["number.json", "-i", "none.json", "-i", "1.json"], "", 2,
-     "1.json - VALID\n", ["none.json cannot be read: "]),
+     "1.json - VALID\n2 files: 0 refused, 1 unanswered\n", ["none.json cannot be read: "]),
     ("an instance that is not JSON, and the next is refused", ["number.json", "-i", "cut.json", "-i", "text.json"], "", 2,
-     'text.json - INVALID. Errors:\n1. "text" is not of type "number"\n   instance: (root); schema: /type\n',
-     ["cut.json is not JSON: ", "line 2 column"]),
+     TEXT + "2 files: 1 refused, 1 unanswered\n", ["cut.json is not JSON: ", "line 2 column"]),
+    ("an object for an instance that cannot be read", ["number.json", "none.json", "--output", "flag"], "", 2,
+     '{"output":"flag","schema":"number.json","instance":"none.json","error":"cannot be read: No such file or directory (os error 2)"}\n',
+     ["none.json cannot be read: "]),
     ("a schema that is not JSON", ["cut.json"], "", 2, "", ["cut.json is not JSON: ", "line 2 column"]),
     ("a schema that is refused", ["wrong.json"], "", 2, "", ["wrong.json is refused: ", "'/properties/a/type'", "--no-check"]),
     ("a reference without its document", ["refers.json"], "", 2, "", ["https://e.example/other", "--resource URI=FILE"]),
@@ -136,8 +170,14 @@ ROWS = [
     ("limits", ["number.json", "--run-limit", "1", "--nested-limit", "2", "-i", "3.json"], "", 0, "3.json - VALID\n", []),
     ("a limit on work within which a document is refused", ["number.json", "--work-limit", "1", "-i", "text.json"], "", 1,
      'text.json - INVALID. Errors:\n1. "text" is not of type "number"\n   instance: (root); schema: /type\n', []),
-    ("a limit on work that is reached", ["number.json", "--work-limit", "0", "-i", "text.json"], "", 1,
-     "text.json - INVALID. Errors:\n1. The limit of 0 steps was reached\n   instance: (root); schema: (root)\n", []),
+    ("a limit on work that is reached", ["steps.json", "--work-limit", "1", "-i", "steps.in"], "", 2,
+     "steps.in - NO ANSWER. The limit of 1 steps was reached\n", []),
+    ("the same, for a program", ["steps.json", "--work-limit", "1", "-i", "steps.in", "--output", "flag"], "", 2,
+     '{"output":"flag","schema":"steps.json","instance":"steps.in","error":"The limit of 1 steps was reached"}\n', []),
+    ("the same, as a list", ["steps.json", "--work-limit", "1", "-i", "steps.in", "--output", "list"], "", 2,
+     '{"output":"list","schema":"steps.json","instance":"steps.in","error":"The limit of 1 steps was reached"}\n', []),
+    ("the same, of a line", ["steps.json", "--work-limit", "1", "--lines", "steps.in"], "", 2,
+     "steps.in:1 - NO ANSWER. The limit of 1 steps was reached\nsteps.in: 1 lines: 0 refused, 1 unanswered\n", []),
     ("a limit on work that is no number", ["number.json", "--work-limit", "-1"], "", 2, "", []),
     ("flag", ["number.json", "--output", "flag", "-i", "1.json"], "", 0,
      '{"output":"flag","schema":"number.json","instance":"1.json","payload":{"valid":true}}\n', []),
@@ -148,32 +188,33 @@ ROWS = [
     ("a line feed in a name", ["key.json", "-i", "fed.json"], "", 1,
      'fed.json - INVALID. Errors:\n1. 1 is not of type "null"\n   instance: /a\\u{a}b; schema: /properties/a\\u{a}b/type\n', []),
     ("lines", ["number.json", "--lines", "lines"], "", 2, LINES_TEXT, ["lines a second"]),
-    ("lines that are accepted", ["number.json", "--lines", "good.lines"], "", 0, "good.lines: 3 lines: 0 refused, 0 not JSON\n", []),
-    ("no lines", ["number.json", "--lines", "none.lines"], "", 0, "none.lines: 0 lines: 0 refused, 0 not JSON\n", []),
+    ("lines that are accepted", ["number.json", "--lines", "good.lines"], "", 0, "good.lines: 3 lines: 0 refused, 0 unanswered\n", []),
+    ("no lines", ["number.json", "--lines", "none.lines"], "", 0, "none.lines: 0 lines: 0 refused, 0 unanswered\n", []),
     ("a line that is not UTF-8", ["number.json", "--lines", "bytes.lines"], "", 2,
-     "bytes.lines:2 - NOT JSON. invalid JSON at column 2\nbytes.lines: 3 lines: 0 refused, 1 not JSON\n", []),
+     "bytes.lines:2 - NOT JSON. invalid JSON at column 2\nbytes.lines: 3 lines: 0 refused, 1 unanswered\n", []),
     ("lines from standard input", ["number.json", "--lines", "-"], '1\n"x"\n', 1,
-     '-:2 - INVALID. "x" is not of type "number" (instance: (root); schema: /type)\n-: 2 lines: 1 refused, 0 not JSON\n', []),
+     '-:2 - INVALID. "x" is not of type "number" (instance: (root); schema: /type)\n-: 2 lines: 1 refused, 0 unanswered\n', []),
     ("lines of which the verdicts are wanted", ["number.json", "--lines", "lines", "--output", "flag"], "", 2,
      "".join('{"output":"flag","schema":"number.json","instance":"lines","line":%d,%s}\n' % line for line in [
          (1, '"payload":{"valid":true}'), (3, '"payload":{"valid":true}'), (4, '"payload":{"valid":false}'),
          (5, '"error":"EOF while parsing at column 1"'), (6, '"payload":{"valid":true}')]),
-     ["lines: 5 lines: 1 refused, 1 not JSON"]),
+     ["lines: 5 lines: 1 refused, 1 unanswered"]),
     ("lists of lines", ["number.json", "--lines", "-", "--output", "list"], '"x"', 1,
      {"output": "list", "schema": "number.json", "instance": "-", "line": 1, "valid": False}, []),
     ("progress that comes to an end within a second", ["number.json", "--lines", "good.lines", "--progress"], "", 0,
-     "good.lines: 3 lines: 0 refused, 0 not JSON\n", []),
+     "good.lines: 3 lines: 0 refused, 0 unanswered\n", []),
     ("a folder for a file of lines", ["number.json", "--lines", "."], "", 2, None, [". cannot be read: "]),
     ("no such file of lines", ["number.json", "--lines", "none"], "", 2, "", ["none cannot be read: "]),
     ("a file and lines", ["number.json", "-i", "1.json", "--lines", "good.lines"], "", 0,
-     "1.json - VALID\ngood.lines: 3 lines: 0 refused, 0 not JSON\n", []),
-    ("a folder for a file", ["number.json", "-i", "."], "", 2, "", [". cannot be read: "]),
+     "1.json - VALID\ngood.lines: 3 lines: 0 refused, 0 unanswered\n", []),
+    ("a folder for a schema", ["."], "", 2, "", [". cannot be read: "]),
 ]
 
 
 def fill(folder):
     """Writes the files that the calls name."""
     for name, text in FILES.items():
+        (folder / name).parent.mkdir(exist_ok=True)
         (folder / name).write_bytes(text if isinstance(text, bytes) else text.encode())
 
 
@@ -211,7 +252,7 @@ def wrong_in(program, folder, row):
     for text in told:
         if text not in found[2]:
             return f"standard error {found[2]!r} does not hold {text!r}"
-    if status == 2 and "--lines" not in words and not any(next_step in found[2] for next_step in NEXT_STEPS):
+    if status == 2 and "--lines" not in words and "The limit of" not in found[1] and not any(next_step in found[2] for next_step in NEXT_STEPS):
         return f"standard error {found[2]!r} does not say what to do next"
     if status != 2 and "--lines" not in words and found[2]:
         return f"standard error {found[2]!r}, wanted none"

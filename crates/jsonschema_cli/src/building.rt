@@ -1,7 +1,7 @@
 //! Builds the validator of the schema, and answers by it.
 
 use crate::validating::Validating;
-use command_line::{Desk, Document, Engine, Options, Outcome, Stop, answer_by, tell};
+use command_line::{Desk, Document, Engine, Options, Stop, answer_by, tell};
 use jsonschema::{BuildError, BuildOptions, MetaError, options as build_options};
 use schema_engine::{BuildError as EngineError, OutOfMemory};
 use serde_json::Value;
@@ -46,6 +46,9 @@ fn chosen_by<'a>(
     let mut chosen = build_options(alloc).should_validate_schema(options.checked);
     if let Some(draft) = options.draft {
         chosen = chosen.with_draft(draft);
+    }
+    if let Some(asserted) = options.formats {
+        chosen = chosen.should_validate_formats(asserted);
     }
     with_documents(with_limits(chosen, options), documents)
 }
@@ -97,7 +100,7 @@ fn answer_chosen(
     options: &Options<'_>,
     chosen: BuildOptions<'_>,
     schema: &Value,
-) -> Result<Outcome, Stop> {
+) -> Result<(), Stop> {
     match chosen.build(schema) {
         Ok(validator) => {
             let asked = Validating {
@@ -126,7 +129,7 @@ impl Engine for Standard {
         options: &Options<'_>,
         schema: &Value,
         documents: &[Document<'_>],
-    ) -> Result<Outcome, Stop> {
+    ) -> Result<(), Stop> {
         match chosen_by(rt.alloc(), options, documents) {
             Ok(chosen) => answer_chosen(rt, desk, options, chosen, schema),
             Err(_refused) => Err(Stop::OutOfMemory),

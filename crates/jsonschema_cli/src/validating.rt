@@ -1,13 +1,18 @@
 //! Answers for instances with a validator.
-ghost use Rattle.std.specs.Prelude.{◌≤◌, IfOk};
-ghost use Rattle.command_line.specs.Outcomes.{code_of};
+ghost use Rattle.std.specs.Prelude.{◌≡◌, IfOk, IsSome, is_some};
+ghost use Rattle.command_line.specs.declared.outcomes.Outcome.TheVariants as outcome;
+ghost use Rattle.jsonschema_cli.specs.Answered.{AnswersBy, HasErrors, HasFirst, HasUnit, IsDecided};
 
 use command_line::{
-    Answer, Answerer, Outcome, Output, Paint, Subject, answered, file_report, flag, line_report,
+    Answer, Answerer, Outcome, Output, Style, Subject, answered, file_report, flag, line_report,
+    unanswered, unanswered_report,
 };
 use jsonschema::StandardValidator;
+use pattern_matcher::PatternMatcher;
+use schema_engine::{CallError, Matcher, OutOfMemory, Validate, Work};
 use serde_json::Value;
-use std::alloc::Global;
+use standard_keywords::StandardKeyword;
+use std::alloc::{AllocError, Global};
 
 /// Answers for instances with this validator.
 #[derive(Clone, Copy)]
@@ -15,15 +20,60 @@ pub(crate) struct Validating<'v> {
     pub(crate) validator: &'v StandardValidator,
 }
 
+/// Returns the text for an instance on which the validator stopped at its limit on steps.
+fn limit_text(
+    alloc: Global,
+    style: Style,
+    subject: Subject<'_>,
+    limit: u64,
+) -> Result<String, OutOfMemory> {
+    let why = format!(in alloc; "The limit of {limit} steps was reached")?;
+    let text = match style.output {
+        Output::Text => unanswered_report(alloc, subject, why.as_str()),
+        output => unanswered(alloc, output, subject, why.as_str()),
+    };
+    drop(why);
+    text
+}
+
 impl Validating<'_> {
-    /// Returns all errors of an instance, as text.
-    fn errors(&self, alloc: Global, paint: Paint, file: &str, instance: &Value) -> Answer
-        ensures answered { IfOk result (λ a. code_of a.0 ≤ 1) }
+    /// Answers for an instance on which a call failed.
+    fn stopped(
+        &self,
+        alloc: Global,
+        style: Style,
+        subject: Subject<'_>,
+        failure: CallError,
+    ) -> Answer
+        ensures unanswered { IfOk result (λ a. a.0 ≡ outcome.Unanswered) }
+        ensures limit { IfOk result (λ a. IsSome self.now.validator.now.work) }
     {
-        let errors = self.validator.iter_errors(alloc, instance)?;
-        let outcome = Outcome::of(errors.size_hint().0 == 0);
-        let text = file_report(alloc, paint, file, errors)?;
-        Ok((outcome, text))
+        match (failure, self.validator.work_limit()) {
+            (CallError::WorkLimit, Some(limit)) => {
+                let text = limit_text(alloc, style, subject, limit)?;
+                Ok((Outcome::Unanswered, text))
+            }
+            _ => Err(AllocError),
+        }
+    }
+
+    /// Returns all errors of an instance, as text.
+    fn errors(&self, alloc: Global, style: Style, subject: Subject<'_>, instance: &Value) -> Answer
+        ensures errors { IfOk result (λ a. AnswersBy self.now.validator.now
+            (HasErrors ⟦<StandardKeyword as Validate>⟧ ⟦<PatternMatcher as Matcher>⟧ self.now.validator.now instance.now) a.0) }
+    {
+        let mut work = Work::within(self.validator.work_limit());
+        match self
+            .validator
+            .iter_errors_within(alloc, instance, &mut work)
+        {
+            Ok(errors) => {
+                let outcome = Outcome::of(errors.size_hint().0 == 0);
+                let text = file_report(alloc, style, subject, errors)?;
+                Ok((outcome, text))
+            }
+            Err(failure) => self.stopped(alloc, style, subject, failure),
+        }
     }
 
     /// Returns the first error of a line as text.
@@ -32,61 +82,80 @@ impl Validating<'_> {
     fn first_error(
         &self,
         alloc: Global,
-        paint: Paint,
-        file: &str,
-        number: u64,
+        style: Style,
+        subject: Subject<'_>,
         instance: &Value,
     ) -> Answer
-        ensures answered { IfOk result (λ a. code_of a.0 ≤ 1) }
+        ensures first { IfOk result (λ a. AnswersBy self.now.validator.now
+            (HasFirst ⟦<StandardKeyword as Validate>⟧ ⟦<PatternMatcher as Matcher>⟧ self.now.validator.now instance.now) a.0) }
     {
-        match self.validator.validate(alloc, instance)? {
-            Ok(()) => Ok((Outcome::Accepted, String::new(alloc))),
-            Err(error) => {
-                let text = line_report(alloc, paint, file, number, &error);
+        let mut work = Work::within(self.validator.work_limit());
+        match self.validator.validate_within(alloc, instance, &mut work) {
+            Ok(Ok(())) => Ok((Outcome::Accepted, String::new(alloc))),
+            Ok(Err(error)) => {
+                let text = line_report(alloc, style, subject, &error);
                 drop(error);
                 Ok((Outcome::Refused, text?))
             }
+            Err(failure) => self.stopped(alloc, style, subject, failure),
         }
     }
 
     /// Returns the verdict on an instance, in JSON.
-    fn verdict(&self, alloc: Global, subject: Subject<'_>, instance: &Value) -> Answer
-        ensures answered { IfOk result (λ a. code_of a.0 ≤ 1) }
+    fn verdict(
+        &self,
+        alloc: Global,
+        style: Style,
+        subject: Subject<'_>,
+        instance: &Value,
+    ) -> Answer
+        ensures verdict { IfOk result (λ a.
+            IsDecided ⟦<StandardKeyword as Validate>⟧ ⟦<PatternMatcher as Matcher>⟧ self.now.validator.now instance.now a.0) }
     {
-        let accepted = self.validator.is_valid(alloc, instance)?;
-        let text = answered(alloc, Output::Flag, subject, flag(accepted))?;
-        Ok((Outcome::of(accepted), text))
+        let mut work = Work::within(self.validator.work_limit());
+        match self.validator.is_valid_within(alloc, instance, &mut work) {
+            Ok(accepted) => {
+                let text = answered(alloc, Output::Flag, subject, flag(accepted))?;
+                Ok((Outcome::of(accepted), text))
+            }
+            Err(failure) => self.stopped(alloc, style, subject, failure),
+        }
     }
 
     /// Returns the list of an instance's units, in JSON.
-    fn list(&self, alloc: Global, subject: Subject<'_>, instance: &Value) -> Answer
-        ensures answered { IfOk result (λ a. code_of a.0 ≤ 1) }
+    fn list(&self, alloc: Global, style: Style, subject: Subject<'_>, instance: &Value) -> Answer
+        ensures unit { IfOk result (λ a. AnswersBy self.now.validator.now
+            (HasUnit ⟦<StandardKeyword as Validate>⟧ ⟦<PatternMatcher as Matcher>⟧ self.now.validator.now instance.now) a.0) }
     {
-        let evaluation = self.validator.evaluate(alloc, instance)?;
-        let accepted = evaluation.is_valid();
-        let list = evaluation.list_text(alloc);
-        drop(evaluation);
-        let text = answered(alloc, Output::List, subject, list?.as_str())?;
-        Ok((Outcome::of(accepted), text))
+        let mut work = Work::within(self.validator.work_limit());
+        match self.validator.evaluate_within(alloc, instance, &mut work) {
+            Ok(evaluation) => {
+                let accepted = evaluation.is_valid();
+                let list = evaluation.list_text(alloc);
+                drop(evaluation);
+                let text = answered(alloc, Output::List, subject, list?.as_str())?;
+                Ok((Outcome::of(accepted), text))
+            }
+            Err(failure) => self.stopped(alloc, style, subject, failure),
+        }
     }
 }
 
 impl Answerer for Validating<'_> {
+    ghost limited = { λ v. is_some v.validator.now.work };
+
     fn answer(
         &self,
         alloc: Global,
-        paint: Paint,
-        output: Output,
+        style: Style,
         subject: Subject<'_>,
         instance: &Value,
     ) -> Answer {
-        match (output, subject.line) {
-            (Output::Text, None) => self.errors(alloc, paint, subject.instance, instance),
-            (Output::Text, Some(number)) => {
-                self.first_error(alloc, paint, subject.instance, number, instance)
-            }
-            (Output::Flag, _) => self.verdict(alloc, subject, instance),
-            (Output::List, _) => self.list(alloc, subject, instance),
+        match (style.output, subject.line) {
+            (Output::Text, None) => self.errors(alloc, style, subject, instance),
+            (Output::Text, Some(_line)) => self.first_error(alloc, style, subject, instance),
+            (Output::Flag, _) => self.verdict(alloc, style, subject, instance),
+            (Output::List, _) => self.list(alloc, style, subject, instance),
         }
     }
 }
