@@ -30,13 +30,7 @@ pub trait Answerer {
     /// # Errors
     ///
     /// Out of memory.
-    fn answer(
-        &self,
-        alloc: Global,
-        style: Style,
-        subject: Subject<'_>,
-        instance: &Value,
-    ) -> Answer
+    fn answer(&self, alloc: Global, style: Style, subject: Subject<'_>, instance: &Value) -> Answer
         ensures answered { Self.limited self.now ≡ false → IfOk result (λ a. code_of a.0 ≤ 1) };
 }
 

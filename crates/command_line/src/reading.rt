@@ -4,9 +4,8 @@ use crate::desk::Stop;
 use crate::options::STANDARD_INPUT;
 use crate::telling::{tell_unparsed, tell_unread};
 use serde_json::Value;
-use std::fmt;
 use std::io::Read;
-use std::{fs, io};
+use std::{fmt, fs, io};
 
 /// Why there is no value of a file.
 #[derive(Drop)]

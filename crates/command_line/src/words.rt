@@ -185,7 +185,10 @@ fn command<'a>(alloc: Global) -> Result<Command<'a>, OutOfMemory> {
         .version("0.1.0")
         .about(ABOUT)
         .after_help(AFTER);
-    limits(alloc, outputs(alloc, manners(alloc, files(alloc, command)?)?)?)
+    limits(
+        alloc,
+        outputs(alloc, manners(alloc, files(alloc, command)?)?)?,
+    )
 }
 
 fn values_of<'w>(
@@ -200,10 +203,7 @@ fn values_of<'w>(
 }
 
 /// Returns the files and folders of instances that the matches name.
-fn instances_of<'w>(
-    alloc: Global,
-    matches: &ArgMatches<'w>,
-) -> Result<Vec<&'w str>, OutOfMemory> {
+fn instances_of<'w>(alloc: Global, matches: &ArgMatches<'w>) -> Result<Vec<&'w str>, OutOfMemory> {
     let mut files = values_of(alloc, matches, "file")?;
     if let Some(more) = matches.get_strs("instance") {
         files.extend_from_slice(more)?;

@@ -102,13 +102,7 @@ impl Validating<'_> {
     }
 
     /// Returns the verdict on an instance, in JSON.
-    fn verdict(
-        &self,
-        alloc: Global,
-        style: Style,
-        subject: Subject<'_>,
-        instance: &Value,
-    ) -> Answer
+    fn verdict(&self, alloc: Global, style: Style, subject: Subject<'_>, instance: &Value) -> Answer
         ensures verdict { IfOk result (λ a.
             IsDecided ⟦<StandardKeyword as Validate>⟧ ⟦<PatternMatcher as Matcher>⟧ self.now.validator.now instance.now a.0) }
     {
