@@ -1,6 +1,6 @@
 -- The meaning of the check of a draft: it is a validator of what the text of the draft's
 -- meta-schema reads as, and it means this document plainly. (Core 2020-12, 8.1)
-use Rattle.std.specs.Prelude.{List, None, Some, [], false, ◌≡◌}
+use Rattle.std.specs.Prelude.{None, [], false, ◌≡◌}
 use Rattle.serde_json.specs.Data.{Data}
 use Rattle.serde_json.specs.View.{view}
 use Rattle.theory_definitions.specs.Drafts.{Draft}
