@@ -37,10 +37,10 @@ refused_told (Ok v) (Err b) P Q f tells said = absurd tells
 refused_told (Err e) (Err b) P Q f tells said = f e b tells said
 
 -- what was done, if that is what is told
-pub done_told : {U E X P : Type 0} (r : Result U E) (x : Result U X) → OnOk x (is_ok r ≡ true) → OnOk r P → OnOk x P
-done_told (Ok u) (Ok v) same said = said
-done_told (Err e) (Ok v) same said = absurd (true≢false (sym same))
-done_told r (Err e) same said = tt
+pub done_told : {U E X : Type 0} (r : Result U E) (x : Result U X) (P : Type 0) → OnOk x (is_ok r ≡ true) → OnOk r P → OnOk x P
+done_told (Ok u) (Ok v) P same said = said
+done_told (Err e) (Ok v) P same said = absurd (true≢false (sym same))
+done_told r (Err e) P same said = tt
 
 -- ---- sources
 
@@ -77,6 +77,11 @@ module _ {State S C Maker Run K : Type 0} (resolvers : ResolverMembers HeldDocum
     tells_refused e (Refused x) same refused = subst (λ y. IsRefusedFrom resolvers tables keywords refuses o schema y) (sym same) refused
     tells_refused e (MetaSchemas x) tells refused = absurd tells
     tells_refused e OutOfMemory tells refused = tt
+
+    -- the same, of a refusal under a condition
+    pub tells_refused_if : (A : Type 0) (e : engine.BuildError) (b : BuildError) → Tells e b → (A → IsRefusedFrom resolvers tables keywords refuses o schema e)
+        → A → RefusesFrom resolvers tables keywords refuses o schema b
+    tells_refused_if A e b tells refused holds = tells_refused e b tells (refused holds)
 
     -- so does one that refuses no schema
     pub unrefused_refuses : (b : BuildError) → IsUnrefused b → RefusesFrom resolvers tables keywords refuses o schema b

@@ -104,8 +104,9 @@ impl<'a> BuildOptions<'a> {
         }) }
     {
         let mut options = self;
+        let uri = String::from_str(options.alloc, uri)?;
         options.documents.push(Document {
-            uri: String::from_str(options.alloc, uri)?,
+            uri,
             value: document,
         })?;
         Ok(options)

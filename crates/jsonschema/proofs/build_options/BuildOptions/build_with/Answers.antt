@@ -1,6 +1,6 @@
 use Rattle.std.proofs.lemmas.Result.{IfOk-weaker}
 use Rattle.jsonschema.proofs.Handing.{unrefused_refuses}
-use Rattle.jsonschema.proofs.building.BuildOptions.build_with.Goals as goal
+use Rattle.jsonschema.proofs.build_options.BuildOptions.build_with.Goals as goal
 
 pub returns-in-Ok-clause-built : goal.returns-in-Ok-clause-built
 returns-in-Ok-clause-built c = IfOk-weaker c.build_by.result _ _ (λ _ from. record { needed = c.in-Ok.ensures.needed; from = from }) c.build_by.ensures.built
