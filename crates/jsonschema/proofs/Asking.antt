@@ -1,5 +1,5 @@
 -- Answers of calls of schema and instance in one, put together from a build and a validator's call.
-use Rattle.std.proofs.Common.{Err, IfErr, IfOk, Ok, Result, ◌≡◌}
+use Rattle.std.proofs.Common.{Err, IfOk, Ok, Result}
 use Rattle.std.specs.Prelude.{Bool, List}
 use Rattle.serde_json.specs.declared.value.Value.{Value}
 use Rattle.pattern_matcher.specs.declared.treatment.Treatment.{Treatment}

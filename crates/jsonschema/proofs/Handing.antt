@@ -2,7 +2,6 @@
 use Rattle.std.proofs.Common.{Err, IfErr, IfOk, Ok, Result, [], ap, subst, sym, true≢false, ◌≡◌, ◌⊎◌}
 use Rattle.std.specs.Prelude.{List, OnOk, is_ok, true}
 use Rattle.std.proofs.lemmas.List.{append-nil}
-use Rattle.serde_json.specs.View.{view}
 use Rattle.serde_json.specs.declared.value.Value.{Value}
 use Rattle.pattern_matcher.specs.declared.treatment.Treatment.{Treatment}
 use Rattle.schema_keys.specs.Checking.{MetaChecks}

@@ -4,7 +4,6 @@
 -- and 9.1)
 use Rattle.std.specs.Prelude.{List, None, Option, Some, [], if◌then◌else◌, is_some, true, unwrap_or, ◌≡◌}
 use Rattle.serde_json.specs.Data.{Data}
-use Rattle.serde_json.specs.View.{view}
 use Rattle.serde_json.specs.declared.value.Value.{Value}
 use Rattle.theory_definitions.specs.Drafts.{Draft, draft_2019_09, draft_2020_12, draft_4, draft_6, draft_7, draft_unknown}
 use Rattle.theory_definitions.specs.Instance.{Text}

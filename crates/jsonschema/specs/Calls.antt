@@ -2,7 +2,6 @@
 -- options: there is a validator of the schema, and the answer is what its call says. (Core 2020-12,
 -- 4.3.5 and 12)
 use Rattle.std.specs.Prelude.{Bool, List, Result}
-use Rattle.serde_json.specs.View.{view}
 use Rattle.serde_json.specs.declared.value.Value.{Value}
 use Rattle.schema_reports.specs.declared.evaluation.EvaluationNode.{EvaluationNode}
 use Rattle.schema_reports.specs.declared.reports.ValidationError.{ValidationError}
