@@ -1,15 +1,15 @@
 //! Answers for instances with a validator.
 ghost use Rattle.std.specs.Prelude.{◌≡◌, IfOk, IsSome, is_some};
 ghost use Rattle.command_line.specs.declared.outcomes.Outcome.TheVariants as outcome;
-ghost use Rattle.jsonschema_cli.specs.Answered.{AnswersBy, HasErrors, HasFirst, HasUnit, IsDecided};
+ghost use Rattle.standard_meta.specs.DraftMeanings.{regexes};
+ghost use Rattle.jsonschema_cli.specs.Answered.{AnswersBy, HasErrors, HasFirst, HasUnit, HasVerdict};
 
 use command_line::{
     Answer, Answerer, Outcome, Output, Style, Subject, answered, file_report, flag, line_report,
     unanswered, unanswered_report,
 };
 use jsonschema::StandardValidator;
-use pattern_matcher::PatternMatcher;
-use schema_engine::{CallError, Matcher, OutOfMemory, Validate, Work};
+use schema_engine::{CallError, OutOfMemory, Validate, Work};
 use serde_json::Value;
 use standard_keywords::StandardKeyword;
 use std::alloc::{AllocError, Global};
@@ -60,7 +60,7 @@ impl Validating<'_> {
     /// Returns all errors of an instance, as text.
     fn errors(&self, alloc: Global, style: Style, subject: Subject<'_>, instance: &Value) -> Answer
         ensures errors { IfOk result (λ a. AnswersBy self.now.validator.now
-            (HasErrors ⟦<StandardKeyword as Validate>⟧ ⟦<PatternMatcher as Matcher>⟧ self.now.validator.now instance.now) a.0) }
+            (HasErrors ⟦<StandardKeyword as Validate>⟧ regexes self.now.validator.now instance.now) a.0) }
     {
         let mut work = Work::within(self.validator.work_limit());
         match self
@@ -87,7 +87,7 @@ impl Validating<'_> {
         instance: &Value,
     ) -> Answer
         ensures first { IfOk result (λ a. AnswersBy self.now.validator.now
-            (HasFirst ⟦<StandardKeyword as Validate>⟧ ⟦<PatternMatcher as Matcher>⟧ self.now.validator.now instance.now) a.0) }
+            (HasFirst ⟦<StandardKeyword as Validate>⟧ regexes self.now.validator.now instance.now) a.0) }
     {
         let mut work = Work::within(self.validator.work_limit());
         match self.validator.validate_within(alloc, instance, &mut work) {
@@ -103,14 +103,18 @@ impl Validating<'_> {
 
     /// Returns the verdict on an instance, in JSON.
     fn verdict(&self, alloc: Global, style: Style, subject: Subject<'_>, instance: &Value) -> Answer
-        ensures verdict { IfOk result (λ a.
-            IsDecided ⟦<StandardKeyword as Validate>⟧ ⟦<PatternMatcher as Matcher>⟧ self.now.validator.now instance.now a.0) }
+        ensures verdict { IfOk result (λ a. AnswersBy self.now.validator.now
+            (HasVerdict ⟦<StandardKeyword as Validate>⟧ regexes self.now.validator.now instance.now) a.0) }
     {
         let mut work = Work::within(self.validator.work_limit());
         match self.validator.is_valid_within(alloc, instance, &mut work) {
             Ok(accepted) => {
                 let text = answered(alloc, Output::Flag, subject, flag(accepted))?;
-                Ok((Outcome::of(accepted), text))
+                if accepted {
+                    Ok((Outcome::Accepted, text))
+                } else {
+                    Ok((Outcome::Refused, text))
+                }
             }
             Err(failure) => self.stopped(alloc, style, subject, failure),
         }
@@ -119,7 +123,7 @@ impl Validating<'_> {
     /// Returns the list of an instance's units, in JSON.
     fn list(&self, alloc: Global, style: Style, subject: Subject<'_>, instance: &Value) -> Answer
         ensures unit { IfOk result (λ a. AnswersBy self.now.validator.now
-            (HasUnit ⟦<StandardKeyword as Validate>⟧ ⟦<PatternMatcher as Matcher>⟧ self.now.validator.now instance.now) a.0) }
+            (HasUnit ⟦<StandardKeyword as Validate>⟧ regexes self.now.validator.now instance.now) a.0) }
     {
         let mut work = Work::within(self.validator.work_limit());
         match self.validator.evaluate_within(alloc, instance, &mut work) {
