@@ -57,13 +57,18 @@ def places_of(draft, schema):
     return {pointer(error.absolute_path) for error in validator(validator.META_SCHEMA).iter_errors(schema)}
 
 
+def passes(schema):
+    """Whether a schema is one that no meta-schema is asked about: a boolean, or an object without members."""
+    return isinstance(schema, bool) or schema == {}
+
+
 def spoilt(schemas):
     """A spoilt schema, its draft, and where it is refused."""
     while True:
         draft, schema = random.choice(schemas)
         schema = replaced(schema, random.choice(list(paths_in(schema))), random.choice(VALUES))
         places = places_of(draft, schema)
-        if places:
+        if places and not passes(schema):
             return draft, schema, places
 
 

@@ -83,8 +83,9 @@ def objects_in(value):
 
 
 def is_annotation(draft, name, schema):
-    """Whether an optional group asks for what only annotates in its draft."""
-    return name.startswith("optional") and draft in ANNOTATING_DRAFTS and any(not ANNOTATING.isdisjoint(below) for below in objects_in(schema))
+    """Whether an optional group asks for what only annotates in its draft; the meta-schemas of `format-assertion` have formats assert."""
+    optional = name.startswith("optional") and not name.endswith("format-assertion")
+    return optional and draft in ANNOTATING_DRAFTS and any(not ANNOTATING.isdisjoint(below) for below in objects_in(schema))
 
 
 def unsupported_in(message):
