@@ -1,5 +1,5 @@
 //! A validator whose first error is a function of the instance.
-ghost use Rattle.std.specs.Prelude.{◌≡◌, ◌<◌, ◌≤◌, Bool, IfOk, IfSome, IsSome, false, length, option_map, true};
+ghost use Rattle.std.specs.Prelude.{◌≡◌, ◌<◌, ◌≤◌, Bool, IfOk, IfSome, false, length, option_map, true};
 ghost use Rattle.serde_json.specs.Written.{has_float};
 ghost use Rattle.serde_json.specs.View.{view};
 ghost use Rattle.schema_traits.specs.MatcherViews.{FinishesEach};
@@ -62,7 +62,6 @@ impl<K: Validate, M: Matcher> Checker<K, M> {
         requires inside { validator.root < length validator.nodes }
         requires some { 1 ≤ validator.runs }
         ensures is { IfSome result (λ c. c ≡ validator) }
-        ensures made { Checks K.Validate M.Matcher.own validator → IsSome result }
     {
         let nodes = validator.nodes();
         nodes.assert_ordered();
@@ -88,7 +87,6 @@ impl<K: Validate, M: Matcher> Checker<K, M> {
     ) -> Option<Checker<K, M>>
         requires finishes { FinishesEach (M.matching matcher.now) → FinishesEach (M.matching validator.matcher) }
         ensures is { IfSome result (λ c. c ≡ validator) }
-        ensures made { M.finishing matcher.now ≡ true → Checks K.Validate M.Matcher.own validator → IsSome result }
     {
         if !matcher.finishes() || validator.run_limit() == 0 {
             return None;

@@ -7,7 +7,9 @@
 #![tactic(auto)]
 
 mod char_set;
+mod neighbours;
 mod tree;
 
 pub use char_set::CharSet;
+pub use neighbours::{ends_line, is_word_after, is_word_before, starts_line};
 pub use tree::{Edge, Look, Span, Tree, Turns};
