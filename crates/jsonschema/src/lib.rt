@@ -9,6 +9,7 @@
 mod build_options;
 mod building;
 mod calls;
+mod inner_errors;
 mod error;
 mod mentions;
 mod sources;
@@ -16,6 +17,9 @@ mod sources;
 pub use build_options::{BuildOptions, options};
 pub use building::StandardValidator;
 pub use calls::{evaluate, is_valid, iter_errors, validate, validator_for};
+pub use inner_errors::{best_match, causes};
 pub use error::BuildError;
-pub use schema_engine::{Draft, ErrorIterator, Evaluation, Location, OutOfMemory, ValidationError};
+pub use schema_engine::{
+    Draft, ErrorEntry, ErrorIterator, Evaluation, Location, OutOfMemory, ValidationError,
+};
 pub use standard_meta::{MetaDocuments, MetaError, MetaSchemas};
