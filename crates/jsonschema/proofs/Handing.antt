@@ -19,7 +19,7 @@ use Rattle.jsonschema.specs.Built.{AreStandard, IsBuiltFrom, IsBuiltOf, IsRefuse
 use Rattle.jsonschema.specs.Refusing.{IsUnrefused, Tells, TellsOf}
 use Rattle.jsonschema.specs.Sources.{SchemaSources, with_documents}
 use Rattle.jsonschema.specs.declared.error.BuildError.{BuildError}
-use Rattle.jsonschema.specs.declared.error.BuildError.TheVariants.{MetaSchemas, OutOfMemory, Refused}
+use Rattle.jsonschema.specs.declared.error.BuildError.TheVariants.{MetaSchemaRefused, MetaSchemaUnfit, MetaSchemas, OutOfMemory, Refused}
 
 -- ---- results that are told
 
@@ -75,6 +75,8 @@ module _ {State S C Maker Run K : Type 0} (resolvers : ResolverMembers HeldDocum
         → RefusesFrom resolvers tables keywords refuses o schema b
     tells_refused e (Refused x) same refused = subst (λ y. IsRefusedFrom resolvers tables keywords refuses o schema y) (sym same) refused
     tells_refused e (MetaSchemas x) tells refused = absurd tells
+    tells_refused e (MetaSchemaRefused uri x) tells refused = absurd tells
+    tells_refused e (MetaSchemaUnfit uri) tells refused = absurd tells
     tells_refused e OutOfMemory tells refused = tt
 
     -- the same, of a refusal under a condition
@@ -86,4 +88,6 @@ module _ {State S C Maker Run K : Type 0} (resolvers : ResolverMembers HeldDocum
     pub unrefused_refuses : (b : BuildError) → IsUnrefused b → RefusesFrom resolvers tables keywords refuses o schema b
     unrefused_refuses (Refused x) none = absurd none
     unrefused_refuses (MetaSchemas x) none = tt
+    unrefused_refuses (MetaSchemaRefused uri x) none = tt
+    unrefused_refuses (MetaSchemaUnfit uri) none = tt
     unrefused_refuses OutOfMemory none = tt

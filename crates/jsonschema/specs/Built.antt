@@ -27,7 +27,7 @@ use Rattle.standard_meta.specs.MetaDocuments.{AreRead, known_drafts, texts_of_ea
 use Rattle.jsonschema.specs.BuildOptions.{BuildOptions, HasNeeded, needed_draft, sources_of}
 use Rattle.jsonschema.specs.Sources.{IsResolverOf, SchemaSources, options_by, values_of, with_documents}
 use Rattle.jsonschema.specs.declared.error.BuildError.{BuildError}
-use Rattle.jsonschema.specs.declared.error.BuildError.TheVariants.{MetaSchemas, OutOfMemory, Refused}
+use Rattle.jsonschema.specs.declared.error.BuildError.TheVariants.{MetaSchemaRefused, MetaSchemaUnfit, MetaSchemas, OutOfMemory, Refused}
 
 -- the matcher of the sources' patterns; it leaves a match unfinished if it takes too many steps,
 -- which needs a back reference
@@ -92,23 +92,6 @@ module _ {State S C Maker Run K : Type 0} (resolvers : ResolverMembers HeldDocum
     abbrev pub RefusesFrom : BuildError → Type 0
     RefusesFrom (Refused e) = IsRefusedFrom e
     RefusesFrom (MetaSchemas e) = Unit {0}
+    RefusesFrom (MetaSchemaRefused uri e) = Unit {0}
+    RefusesFrom (MetaSchemaUnfit uri) = Unit {0}
     RefusesFrom OutOfMemory = Unit {0}
-
-  module _ (o : BuildOptions) (schema : Value) where
-    -- the check is by the meta-schemas that these programs mean, among them those that it needs
-    pub record IsBuiltWith (ps : DraftPrograms C Treatment) (p : Program C Treatment) : Type 0 where
-      pub needed : o.engine.checks ≡ true → HasNeeded (needed_draft o (view schema)) ps
-      pub from : IsBuiltFrom (checked_by keywords regexes ps) o schema p
-
-    -- the validator is built from the schema by these options, and the check of the schema is by
-    -- the meta-schemas of the standard
-    pub record IsValidatorOf (p : Program C Treatment) : Type 0 where
-      pub metas : DraftPrograms C Treatment
-      pub each : EachMeans metas
-      pub built : IsBuiltWith metas p
-
-    -- the error refuses such a build
-    pub record IsNoValidatorOf (e : BuildError) : Type 0 where
-      pub metas : DraftPrograms C Treatment
-      pub each : EachMeans metas
-      pub refused : RefusesFrom (checked_by keywords regexes metas) o schema e

@@ -2,12 +2,14 @@
 use Rattle.std.specs.Prelude.{Err, Ok, Result, ◌≡◌}
 use Rattle.schema_keys.specs.declared.error.BuildError as engine
 use Rattle.jsonschema.specs.declared.error.BuildError.{BuildError}
-use Rattle.jsonschema.specs.declared.error.BuildError.TheVariants.{MetaSchemas, OutOfMemory, Refused}
+use Rattle.jsonschema.specs.declared.error.BuildError.TheVariants.{MetaSchemaRefused, MetaSchemaUnfit, MetaSchemas, OutOfMemory, Refused}
 
 -- it tells this refusal; want of memory tells nothing
 abbrev pub Tells : engine.BuildError → BuildError → Type 0
 Tells refused (Refused e) = e ≡ refused
 Tells refused (MetaSchemas e) = ⊥
+Tells refused (MetaSchemaRefused uri e) = ⊥
+Tells refused (MetaSchemaUnfit uri) = ⊥
 Tells refused OutOfMemory = Unit {0}
 
 -- it tells what a result refuses
@@ -19,4 +21,6 @@ TellsOf (Err refused) e = Tells refused e
 abbrev pub IsUnrefused : BuildError → Type 0
 IsUnrefused (Refused e) = ⊥
 IsUnrefused (MetaSchemas e) = Unit {0}
+IsUnrefused (MetaSchemaRefused uri e) = Unit {0}
+IsUnrefused (MetaSchemaUnfit uri) = Unit {0}
 IsUnrefused OutOfMemory = Unit {0}

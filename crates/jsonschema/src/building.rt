@@ -5,10 +5,9 @@ ghost use Rattle.standard_subschemas.specs.declared.rules.Rule.TheVariants.{Stan
 ghost use Rattle.schema_keys.specs.declared.error.BuildError.TheVariants.{OutOfMemory};
 ghost use Rattle.schema_traits.specs.Showing.{Yields};
 ghost use Rattle.schema_drafts.specs.KeywordViews.{draft_of};
-ghost use Rattle.meta_checker.specs.DraftChecks.{checked_by};
-ghost use Rattle.standard_meta.specs.DraftMeanings.{regexes};
 ghost use Rattle.jsonschema.specs.Built.{IsBuilt, IsBuiltOf, IsRefused, IsRefusedOf, matcher_of};
-ghost use Rattle.jsonschema.specs.Built.{AreStandard, EachMeans, IsBuiltFrom, IsBuiltWith, IsNoValidatorOf, IsValidatorOf, RefusesFrom};
+ghost use Rattle.jsonschema.specs.Built.{AreStandard, EachMeans, IsBuiltFrom, RefusesFrom};
+ghost use Rattle.jsonschema.specs.Checked.{IsBuiltWith, IsChecked, IsNoValidatorOf, IsValidatorOf, RefusesChecked};
 ghost use Rattle.jsonschema.specs.BuildOptions.{HasNeeded, if_known, needed_draft, root_draft_of, sources_of};
 ghost use Rattle.jsonschema.specs.Refusing.{IsUnrefused, TellsOf};
 ghost use Rattle.jsonschema.specs.Sources.{default_draft_of, options_by, set_draft, uri_of};
@@ -18,13 +17,13 @@ use crate::build_options::BuildOptions;
 use crate::error::{BuildError, error_of, unrefused};
 use crate::mentions::mentions_standard;
 use crate::sources::Sources;
+use crate::supplied::SuppliedCheck;
 use pattern_matcher::PatternMatcher;
 use schema_engine::{
     BuildError as EngineError, Draft, KeywordTable, MetaValidators, OutOfMemory, Resolver,
     Validate, ValidationOptions, Validator, VocabularySet,
 };
 use serde_json::Value;
-use standard_dialects::standard_draft;
 use standard_keywords::{StandardKeyword, StandardTable};
 use standard_meta::{MetaDocuments, MetaError, MetaSchemas};
 use standard_resolver::{Document, DocumentResolver, Rule};
@@ -101,7 +100,10 @@ fn resolver_of<'a>(alloc: Global, sources: Sources<'a>) -> Result<DocumentResolv
 }
 
 /// The matcher of the patterns of the schema and the documents.
-fn matcher_of(alloc: Global, sources: &Sources<'_>) -> Result<PatternMatcher, OutOfMemory>
+pub(crate) fn matcher_of(
+    alloc: Global,
+    sources: &Sources<'_>,
+) -> Result<PatternMatcher, OutOfMemory>
     ensures matcher { Yields result (matcher_of sources.now) }
 {
     let values = sources.values(alloc)?;
@@ -131,7 +133,7 @@ fn build_by<'p, V: MetaValidators>(
 ///
 /// Each pattern of the sources is read once. The meta validators check the schema first, unless the
 /// options turn that off.
-fn build_of<'p, V: MetaValidators>(
+pub(crate) fn build_of<'p, V: MetaValidators>(
     alloc: Global,
     sources: Sources<'p>,
     metas: &V,
@@ -151,7 +153,10 @@ fn build_of<'p, V: MetaValidators>(
 }
 
 /// Returns the sources that options and a schema make.
-fn sources_of<'a>(options: BuildOptions<'a>, schema: &'a Value) -> (Sources<'a>, ValidationOptions)
+pub(crate) fn sources_of<'a>(
+    options: BuildOptions<'a>,
+    schema: &'a Value,
+) -> (Sources<'a>, ValidationOptions)
     ensures sources { result.0 ≡ sources_of options.entry schema.now }
     ensures engine { result.1 ≡ options.entry.engine }
 {
@@ -227,10 +232,7 @@ impl<'a> BuildOptions<'a> {
     {
         match self.draft {
             Some(draft) => draft,
-            None => match text_member(schema, "$schema") {
-                Some(uri) => standard_draft(uri),
-                None => self.default_draft.unwrap_or(Draft::Draft202012),
-            },
+            None => self.named_draft(schema),
         }
     }
 
@@ -358,7 +360,35 @@ impl<'a> BuildOptions<'a> {
         }
     }
 
-    /// Builds a validator of a schema, which the standard's meta-schemas check.
+    /// Builds a validator of a schema, which the standard's meta-schemas check, or the one that it
+    /// names among the documents.
+    fn build_checked(
+        self,
+        metas: &MetaSchemas,
+        schema: &'a Value,
+    ) -> Result<StandardValidator, BuildError>
+        ensures built { IfOk result (IsChecked ⟦<DocumentResolver<'a> as Resolver>⟧ ⟦<StandardTable as KeywordTable<StandardKeyword>>⟧
+            ⟦<StandardKeyword as Validate>⟧ self.entry schema.now metas.now.checkers) }
+        ensures refused { IfErr result (RefusesChecked ⟦<DocumentResolver<'a> as Resolver>⟧ ⟦<StandardTable as KeywordTable<StandardKeyword>>⟧
+            ⟦<StandardKeyword as Validate>⟧ self.entry schema.now metas.now.checkers) }
+    {
+        match self.supplied(metas, schema) {
+            Ok(Some(supplied)) => {
+                let check = SuppliedCheck {
+                    metas,
+                    supplied: &supplied,
+                };
+                let built = self.build_by(&check, schema);
+                drop(supplied);
+                built
+            }
+            Ok(None) => self.build_by(metas, schema),
+            Err(fault) => Err(fault),
+        }
+    }
+
+    /// Builds a validator of a schema, which its meta-schema checks: the one that it names among the
+    /// documents, or else the standard's.
     ///
     /// A meta-schema that is not compiled yet is compiled if the schema needs it, and is kept for
     /// further builds. It is needed if the schema is of its draft. If a `$schema` stands inside the
@@ -374,15 +404,15 @@ impl<'a> BuildOptions<'a> {
     ) -> Result<StandardValidator, BuildError>
         ensures built { IfOk result (IsBuiltWith ⟦<DocumentResolver<'a> as Resolver>⟧ ⟦<StandardTable as KeywordTable<StandardKeyword>>⟧
             ⟦<StandardKeyword as Validate>⟧ self.entry schema.now metas.new.checkers) }
-        ensures refused { IfErr result (RefusesFrom ⟦<DocumentResolver<'a> as Resolver>⟧ ⟦<StandardTable as KeywordTable<StandardKeyword>>⟧
-            ⟦<StandardKeyword as Validate>⟧ (checked_by ⟦<StandardKeyword as Validate>⟧ regexes metas.new.checkers) self.entry schema.now) }
+        ensures refused { IfErr result (RefusesChecked ⟦<DocumentResolver<'a> as Resolver>⟧ ⟦<StandardTable as KeywordTable<StandardKeyword>>⟧
+            ⟦<StandardKeyword as Validate>⟧ self.entry schema.now metas.new.checkers) }
         ensures each { EachMeans ⟦<DocumentResolver<'static> as Resolver>⟧ ⟦<StandardTable as KeywordTable<StandardKeyword>>⟧
             ⟦<StandardKeyword as Validate>⟧ metas.old.checkers
             → EachMeans ⟦<DocumentResolver<'static> as Resolver>⟧ ⟦<StandardTable as KeywordTable<StandardKeyword>>⟧
             ⟦<StandardKeyword as Validate>⟧ metas.new.checkers }
     {
         match self.prepare(metas, schema) {
-            Ok(()) => self.build_by(&*metas, schema),
+            Ok(()) => self.build_checked(&*metas, schema),
             Err(fault) => Err(fault),
         }
     }

@@ -4,7 +4,7 @@ ghost use Rattle.jsonschema.specs.Refusing.{IsUnrefused, Tells};
 
 use schema_engine::{BuildError as EngineError, Location};
 use standard_meta::MetaError;
-use std::alloc::{AllocError, AllocFailed};
+use std::alloc::{AllocError, AllocFailed, Global};
 use std::error::Error;
 use std::fmt;
 
@@ -15,6 +15,12 @@ pub enum BuildError {
     Refused(EngineError),
     /// A meta-schema cannot check schemas.
     MetaSchemas(MetaError),
+    /// The meta-schema of the schema, which is among the documents, is itself refused.
+    MetaSchemaRefused { uri: String, refused: EngineError },
+    /// The meta-schema of the schema, which is among the documents, cannot check schemas.
+    ///
+    /// One of its keywords shows a fraction, or one of the patterns has a back reference.
+    MetaSchemaUnfit { uri: String },
     /// Out of memory.
     OutOfMemory,
 }
@@ -27,6 +33,8 @@ impl BuildError {
         match self {
             BuildError::Refused(refused) => location_of(refused),
             BuildError::MetaSchemas(_) => None,
+            BuildError::MetaSchemaRefused { uri: _, refused } => location_of(refused),
+            BuildError::MetaSchemaUnfit { uri: _ } => None,
             BuildError::OutOfMemory => None,
         }
     }
@@ -57,6 +65,20 @@ pub(crate) fn error_of(refused: EngineError) -> BuildError
     }
 }
 
+/// Returns the error of a meta-schema among the documents, which is refused or unfit.
+pub(crate) fn error_of_meta(alloc: Global, uri: &str, refused: Option<EngineError>) -> BuildError
+    ensures unrefused { IsUnrefused result }
+{
+    let Ok(uri) = String::from_str(alloc, uri) else {
+        return BuildError::OutOfMemory;
+    };
+    match refused {
+        Some(EngineError::OutOfMemory) => BuildError::OutOfMemory,
+        Some(refused) => BuildError::MetaSchemaRefused { uri, refused },
+        None => BuildError::MetaSchemaUnfit { uri },
+    }
+}
+
 /// Returns the fault of the meta-schemas as an error of this library.
 pub(crate) fn unrefused(fault: MetaError) -> BuildError
     ensures unrefused { IsUnrefused result }
@@ -72,6 +94,14 @@ impl fmt::Display for BuildError {
         match self {
             BuildError::Refused(refused) => write!(f, "{refused}"),
             BuildError::MetaSchemas(fault) => write!(f, "{fault}"),
+            BuildError::MetaSchemaRefused { uri, refused } => write!(
+                f,
+                "the meta-schema '{uri}': {refused}"
+            ),
+            BuildError::MetaSchemaUnfit { uri } => write!(
+                f,
+                "the meta-schema '{uri}' cannot check schemas"
+            ),
             BuildError::OutOfMemory => write!(f, "out of memory"),
         }
     }

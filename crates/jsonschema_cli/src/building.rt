@@ -90,6 +90,13 @@ fn refuse(rt: &HostRuntime, options: &Options<'_>, refused: &BuildError) -> Stop
             tell(rt, options.schema, "is refused", refused, hint_of(refused))
         }
         BuildError::MetaSchemas(fault) => refuse_metas(rt, fault),
+        BuildError::MetaSchemaRefused { uri, refused } => {
+            tell(rt, uri.as_str(), "is refused", refused, hint_of(refused))
+        }
+        BuildError::MetaSchemaUnfit { uri: _ } => {
+            let hint = "--no-check builds the schema unchecked";
+            tell(rt, options.schema, "cannot be checked", refused, hint)
+        }
         BuildError::OutOfMemory => Stop::OutOfMemory,
     }
 }
