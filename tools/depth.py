@@ -10,7 +10,8 @@ what went wrong; elsewhere the least stacks for that depth and for half of it ar
 call set aside, since they lie on the stack too.
 
 What goes wrong: `stack` (ended by a signal), `reader` (the JSON reader takes a word as `not JSON` that nests deeper than 127), `word`
-(Linux gives a program no word longer than 131,071 bytes), `time`, `memory` (more than 4 GiB, or told so).
+(Linux gives a program no word longer than 131,071 bytes), `time`, `memory` (more than 4 GiB, or told so), `status N` (a keyword that the
+program does not have is only an annotation there).
 """
 
 import argparse
@@ -102,9 +103,51 @@ def definitions(depth):
     return text_within(depth, '{"$defs":{"a":', '{"type":"string"}', "}}"), "1", 0
 
 
+# a schema around another, at the same place; and whether the verdict is the other one's, is turned, or is always yes
+AROUND = {
+    "allOf": (lambda inner: {"allOf": [inner]}, "same"),
+    "anyOf": (lambda inner: {"anyOf": [inner]}, "same"),
+    "oneOf": (lambda inner: {"oneOf": [inner]}, "same"),
+    "not": (lambda inner: {"not": inner}, "turned"),
+    "if": (lambda inner: {"if": inner}, "yes"),
+    "then": (lambda inner: {"if": True, "then": inner}, "same"),
+    "else": (lambda inner: {"if": False, "else": inner}, "same"),
+    "dependentSchemas": (lambda inner: {"dependentSchemas": {"n": inner}}, "same"),
+}
+
+
+def chain_under(keyword, accepts):
+    """A way to be deep: a chain of definitions, each with a reference to the next under a keyword that asks at the same place."""
+    around, verdict = AROUND[keyword]
+
+    def way(depth):
+        definitions = {f"d{number}": around({"$ref": f"#/$defs/d{number + 1}"}) for number in range(depth)}
+        definitions[f"d{depth}"] = {} if accepts else {"type": "string"}
+        valid = verdict == "yes" or accepts != (verdict == "turned" and depth % 2 == 1)
+        schema = {"$ref": "#/$defs/d0", "$defs": definitions}
+        return json.dumps(schema, separators=(",", ":")), '{"n":1}', 0 if valid else 1
+
+    way.__name__ = f"{keyword}_{'accepted' if accepts else 'refused'}"
+    return way
+
+
+def targets_built(depth):
+    """References one inside the other with 116 `not` around each, which are built, and asked of nothing. The depth counts references."""
+    def within(inner):
+        for _ in range(116):
+            inner = {"not": inner}
+        return inner
+
+    definitions = {f"d{number}": within({"$ref": f"#/$defs/d{number + 1}"}) for number in range(depth)}
+    definitions[f"d{depth}"] = {}
+    schema = {"type": "string", "properties": {"n": {"$ref": "#/$defs/d0"}}, "$defs": definitions}
+    return json.dumps(schema, separators=(",", ":")), "1", 1
+
+
 WAYS = [
-    references, references_and_members, references_built, members, members_not_monotone, items, untouched,
+    references, references_and_members, references_built, targets_built, members, members_not_monotone, items, untouched,
     all_of, negations, properties, definitions,
+    *(chain_under(keyword, accepts) for keyword in AROUND for accepts in (True, False)),
 ]
 
 

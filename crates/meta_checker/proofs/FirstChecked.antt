@@ -14,6 +14,7 @@ use Rattle.schema_node_table.specs.NodeTable.{numbered}
 use Rattle.schema_compiled.specs.Asked.{FirstFromSomeDepth}
 use Rattle.schema_compiled.specs.Program.{Program}
 use Rattle.schema_compiled.specs.Stopped.{UnlessStopped}
+use Rattle.schema_compiled.specs.declared.stopping.CallLimit.{CallLimit}
 use Rattle.schema_compiled.specs.Spoken.{FirstAnswered}
 use Rattle.schema_compiled.proofs.Searches.{finishes_of}
 use Rattle.meta_checker.specs.FirstErrors.{FirstAlone}
@@ -44,5 +45,5 @@ module _ {C Run K M : Type 0} (keywords : KeywordMembers C Run K) (matchers : Ma
       (deep, λ n more. alone _ p.runs texts o (says n more))
 
   -- a call of the validator stops at no limit
-  pub unstopped : Checks keywords matchers p → (stopped : ℕ → Type 0) (fact : Type 0) → UnlessStopped p.work stopped fact → fact
-  unstopped checks stopped fact said = subst (λ (o : Option ℕ). UnlessStopped o stopped fact) checks.unlimited said
+  pub unstopped : Checks keywords matchers p → (stopped : CallLimit → Type 0) (fact : Type 0) → UnlessStopped p.work p.depth stopped fact → fact
+  unstopped checks stopped fact said = subst (λ (o : Option ℕ). UnlessStopped None o stopped fact) checks.shallow (subst (λ (o : Option ℕ). UnlessStopped o p.depth stopped fact) checks.unlimited said)

@@ -19,7 +19,7 @@ module _ {C Run K M : Type 0} (keywords : KeywordMembers C Run K) (matchers : Ma
   first_by texts instance = first_told (keywords.words texts) (matchers.matching p.matcher) (numbered keywords.shape p.nodes) (length p.nodes) p.root instance
 
   -- the matcher leaves no match unfinished, no text of a keyword shows a fraction, the nodes are
-  -- those of a validator, and a call has no limit on steps
+  -- those of a validator, and a call has no limit on steps and none on depth
   pub record Checks : Type 0 where
     pub finishes : FinishesEach (matchers.matching p.matcher)
     pub whole : AreWhole keywords.is_whole (numbered keywords.shape p.nodes) (length p.nodes)
@@ -27,3 +27,4 @@ module _ {C Run K M : Type 0} (keywords : KeywordMembers C Run K) (matchers : Ma
     pub inside : p.root < length p.nodes
     pub some : 1 ≤ p.runs
     pub unlimited : p.work ≡ None
+    pub shallow : p.depth ≡ None

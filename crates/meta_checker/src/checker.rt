@@ -52,8 +52,8 @@ fn error_in<'v>(refusal: Result<(), ValidationError<'v>>) -> Option<ValidationEr
 impl<K: Validate, M: Matcher> Checker<K, M> {
     /// Creates a checker from a validator.
     ///
-    /// Returns `None` if the validator has a work limit, or if one of its keywords shows a fraction
-    /// of the schema. Does not allocate.
+    /// Returns `None` if the validator has a limit on work or on depth, or if one of its keywords
+    /// shows a fraction of the schema. Does not allocate.
     pub fn of<F: TellsFractions<K>>(
         fractions: &F,
         validator: Validator<K, M>,
@@ -72,6 +72,9 @@ impl<K: Validate, M: Matcher> Checker<K, M> {
         if validator.work_limit().is_some() {
             return None;
         }
+        if validator.depth_limit().is_some() {
+            return None;
+        }
         Some(Checker { validator })
     }
 
@@ -79,7 +82,7 @@ impl<K: Validate, M: Matcher> Checker<K, M> {
     ///
     /// The validator's matcher must finish every match if `matcher` does. Returns `None` if
     /// `matcher` does not say that it finishes every match, if the validator's calls make no runs
-    /// or have a work limit, if its root is not among its nodes, or if one of its keywords shows a
+    /// or have a limit on work or on depth, if its root is not among its nodes, or if one of its keywords shows a
     /// fraction of the schema. Does not allocate.
     pub fn by_matcher<F: TellsFractions<K>>(
         fractions: &F,

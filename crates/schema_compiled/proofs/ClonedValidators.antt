@@ -45,7 +45,7 @@ module _ {C Run K M : Type 0} (keywords : KeywordMembers C Run K) (matchers : Ma
   abbrev read_of : Program C M → Read K
   read_of p = (numbered keywords.shape p.nodes, length p.nodes, p.root, matchers.matching p.matcher, p.runs)
 
-  module _ (p p' : Program C M) (nodes : numbered keywords.shape p.nodes ≡ numbered keywords.shape p'.nodes) (count : length p.nodes ≡ length p'.nodes) (root : p.root ≡ p'.root) (matcher : matchers.matching p.matcher ≡ matchers.matching p'.matcher) (runs : p.runs ≡ p'.runs) (work : p.work ≡ p'.work) where
+  module _ (p p' : Program C M) (nodes : numbered keywords.shape p.nodes ≡ numbered keywords.shape p'.nodes) (count : length p.nodes ≡ length p'.nodes) (root : p.root ≡ p'.root) (matcher : matchers.matching p.matcher ≡ matchers.matching p'.matcher) (runs : p.runs ≡ p'.runs) (work : p.work ≡ p'.work) (depth : p.depth ≡ p'.depth) where
     same : read_of p ≡ read_of p'
     same = read_alike _ _ _ _ _ _ _ _ _ _ nodes count root matcher runs
 
@@ -53,6 +53,7 @@ module _ {C Run K M : Type 0} (keywords : KeywordMembers C Run K) (matchers : Ma
     say_same = record {
       runs = runs;
       work = work;
+      depth = depth;
       speaks = λ instance texts. both (Speaks instance texts) (read_of p) (read_of p') same;
       senses = λ instance texts n. ap (λ (t : Read K). guarded_sense (keywords.words texts) t.3 t.0 (subject_in instance) n t.2) same;
       units = λ instance texts n c. ap (λ (t : Read K). guarded_within (yes_unit t.0) (node_unit (keywords.words texts) t.3 t.0 (subject_in instance) c) n t.2 [] [] []) same;

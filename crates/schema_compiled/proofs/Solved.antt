@@ -10,7 +10,7 @@ use Rattle.theory_definitions.specs.Matching.{Matcher}
 use Rattle.theory_definitions.specs.Reports.{Outcome}
 use Rattle.theory_meaning.specs.Headline.{VerdictSays}
 use Rattle.theory_meaning.specs.Numbered.{subject_in}
-use Rattle.schema_run_context.specs.Works.{Budget, allowed}
+use Rattle.schema_run_context.specs.Works.{Budget, allowed, down_to}
 use Rattle.theory_runs.proofs.NodeOutcomes.{outcome_is}
 use Rattle.schema_node_table.specs.NodeTable.{NodeEntry, numbered}
 use Rattle.schema_solver_state.specs.Following.{IsFollowing}
@@ -79,7 +79,7 @@ gives_a_verdict keywords matchers p instance limit finishes found says exactly n
 
 -- if the verdict is found within its limit, a call is not stopped
 pub not_stopped : {C Run K M : Type 0} (keywords : KeywordMembers C Run K) (matchers : MatcherMembers M) (p : Program C M) (instance : Value) (limit : ℕ) (before after : Budget)
-    → before ≡ allowed (Some limit) → p.work ≡ Some limit → IfSome p.work (IsDecidedWithin keywords matchers p instance)
+    → before ≡ down_to p.depth (allowed (Some limit)) → p.work ≡ Some limit → IfSome p.work (IsDecidedWithin keywords matchers p instance)
     → (IsDecidedWithin keywords matchers p instance before.left → before.stopped ≡ false → after.stopped ≡ false) → ¬ (after.stopped ≡ true)
 not_stopped keywords matchers p instance limit before after given limited decided going stopped =
     let enough = of_some p.work limit (IsDecidedWithin keywords matchers p instance) limited decided in

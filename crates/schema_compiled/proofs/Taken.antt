@@ -13,7 +13,7 @@ use Rattle.theory_meaning.specs.Search.{Uses}
 use Rattle.theory_meaning.specs.Searched.{Reaches, here, next}
 use Rattle.theory_meaning.proofs.Finishing.{nodes_decide}
 use Rattle.schema_node_table.specs.NodeTable.{numbered}
-use Rattle.schema_run_context.specs.Works.{Asks, Budget, Spends, allowed}
+use Rattle.schema_run_context.specs.Works.{Asks, Budget, Spends, allowed, down_to}
 use Rattle.schema_run_context.proofs.Matches.{nothing_twice}
 use Rattle.theory_runs.proofs.Spending.{asks_spends, spends_none, spends_on}
 use Rattle.unfinished_search.specs.RunCounts.{MakesFurther, MakesRuns}
@@ -94,10 +94,10 @@ module _ {C Run K M : Type 0} (keywords : KeywordMembers C Run K) (matchers : Ma
 
 -- what is taken of a budget of the validator's limit is within this limit
 pub runs_within : {C Run K M X : Type 0} (keywords : KeywordMembers C Run K) (matchers : MatcherMembers M) (p : Program C M) (instance : Data) (call : Call) (old new : Budget) (answer : X)
-    → old ≡ allowed p.work → TakesByRuns keywords matchers p instance call old new → MakesRunsWithin call keywords matchers p instance answer
+    → old ≡ down_to p.depth (allowed p.work) → TakesByRuns keywords matchers p instance call old new → MakesRunsWithin call keywords matchers p instance answer
 runs_within keywords matchers p instance call old new answer given takes = go p.work given
   where
-    go : (o : Option ℕ) → old ≡ allowed o
+    go : (o : Option ℕ) → old ≡ down_to p.depth (allowed o)
         → IfSome o (λ limit. FromSomeDepth keywords.shape keywords.words keywords.is_whole matchers.matching p instance (λ texts v. (n : ℕ) × MakesRuns v p.runs call (suc n) × (n ≤ limit)))
     go None is = tt
     go (Some limit) is = λ texts speaks.

@@ -30,12 +30,13 @@ module _ {C Run K M : Type 0} (keywords : KeywordMembers C Run K) (matchers : Ma
   abbrev unit_at : Program C M → Data → Bool → ℕ → Completion → Unit_
   unit_at p instance texts n c = guarded_within (yes_unit (numbered keywords.shape p.nodes)) (node_unit (keywords.words texts) (matchers.matching p.matcher) (numbered keywords.shape p.nodes) (subject_in instance) c) n p.root [] [] []
 
-  -- two validators say the same of every instance, and their calls have the same limits on runs and
-  -- on steps: texts are covered for both or for neither, and at each depth their roots' nodes have
+  -- two validators say the same of every instance, and their calls have the same limits on runs, on
+  -- steps and on depth: texts are covered for both or for neither, and at each depth their roots' nodes have
   -- one sense, and one unit under each outcome of the unfinished matches
   pub record SaySame (p p' : Program C M) : Type 0 where
     pub runs : p.runs ≡ p'.runs
     pub work : p.work ≡ p'.work
+    pub depth : p.depth ≡ p'.depth
     pub speaks : (instance : Data) (texts : Bool) → SpeaksOf p instance texts ↔ SpeaksOf p' instance texts
     pub senses : (instance : Data) (texts : Bool) (n : ℕ) → sense_of p instance texts n ≡ sense_of p' instance texts n
     pub units : (instance : Data) (texts : Bool) (n : ℕ) (c : Completion) → unit_at p instance texts n c ≡ unit_at p' instance texts n c

@@ -16,8 +16,9 @@ use Rattle.theory_meaning.specs.Fractions.{AreWhole}
 use Rattle.schema_node_table.specs.NodeTable.{NodeEntry, numbered}
 
 -- the nodes, the number of the root's node, the root's draft, the matcher, how many runs a call
--- makes at most, how many steps it takes at most, if there is a limit, and for each number of the
--- nodes whether the solver inlines it, if there is a solver
+-- makes at most, how many steps it takes at most and how many evaluations may be open at once, if
+-- there are such limits, and for each number of the nodes whether the solver inlines it, if there is
+-- a solver
 pub record Program (K M : Type 0) : Type 0 where
   pub nodes : List (NodeEntry K)
   pub root : ℕ
@@ -25,18 +26,20 @@ pub record Program (K M : Type 0) : Type 0 where
   pub matcher : M
   pub runs : ℕ
   pub work : Option ℕ
+  pub depth : Option ℕ
   pub followed : Option (List Bool)
 
--- a program of these: the nodes, the root's number and draft, the matcher, the limits on runs and
--- steps, and the numbers that a solver inlines
-abbrev pub program_with : {C M : Type 0} → List (NodeEntry C) → ℕ → Draft → M → ℕ → Option ℕ → Option (List Bool) → Program C M
-program_with nodes root draft matcher runs work followed = record {
+-- a program of these: the nodes, the root's number and draft, the matcher, the limits on runs, on
+-- steps and on depth, and the numbers that a solver inlines
+abbrev pub program_with : {C M : Type 0} → List (NodeEntry C) → ℕ → Draft → M → ℕ → Option ℕ → Option ℕ → Option (List Bool) → Program C M
+program_with nodes root draft matcher runs work depth followed = record {
   nodes = nodes;
   root = root;
   draft = draft;
   matcher = matcher;
   runs = runs;
   work = work;
+  depth = depth;
   followed = followed;
 }
 

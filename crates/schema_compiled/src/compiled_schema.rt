@@ -46,13 +46,14 @@ use std::marker::Model;
 use unfinished_matches::MatchAssumptions;
 use unfinished_search::{errors_under_each, validity_under_each};
 
-/// The limits of a call: on runs, and on steps if there is such a limit.
+/// The limits of a call: on runs, and on steps and on depth if there are such limits.
 ///
-/// `with_work_limit` of the options says what a step is.
+/// `with_work_limit` of the options says what a step is, and `with_depth_limit` what depth is.
 #[derive(Clone, Copy)]
 pub struct CallLimits {
     pub runs: u32,
     pub work: Option<u64>,
+    pub depth: Option<usize>,
 }
 
 /// A compiled schema.
@@ -68,6 +69,7 @@ pub struct CompiledSchema<K: Validate, M> {
     matcher: M,
     run_limit: u32,
     work_limit: Option<u64>,
+    depth_limit: Option<usize>,
     // finds verdicts without a run
     finder: Solver,
 }
@@ -90,6 +92,7 @@ impl<K: Validate, M> Model for CompiledSchema<K, M> {
       matcher = v.matcher;
       runs = v.run_limit;
       work = v.work_limit;
+      depth = v.depth_limit;
       followed = v.finder;
     } };
 
@@ -119,7 +122,7 @@ impl<K: Validate, M: Matcher> CompiledSchema<K, M> {
     ) -> CompiledSchema<K, M>
         requires inside { root.0 < length nodes }
         requires limit { 1 ≤ limits.runs }
-        ensures made { result ≡ program_with nodes root.0 (draft_of draft) matcher limits.runs limits.work finder }
+        ensures made { result ≡ program_with nodes root.0 (draft_of draft) matcher limits.runs limits.work limits.depth finder }
     {
         CompiledSchema {
             nodes,
@@ -128,6 +131,7 @@ impl<K: Validate, M: Matcher> CompiledSchema<K, M> {
             matcher,
             run_limit: limits.runs,
             work_limit: limits.work,
+            depth_limit: limits.depth,
             finder,
         }
     }
@@ -146,6 +150,13 @@ impl<K: Validate, M: Matcher> CompiledSchema<K, M> {
         ensures work { result ≡ self.now.work }
     {
         self.work_limit
+    }
+
+    /// Returns how many evaluations a call has open at once at most, if there is a limit.
+    pub fn depth_limit(&self) -> Option<usize>
+        ensures depth { result ≡ self.now.depth }
+    {
+        self.depth_limit
     }
 
     /// Returns the draft of the schema's root.
@@ -251,8 +262,8 @@ impl<K: Validate, M: Matcher> CompiledSchema<K, M> {
     ///
     /// # Errors
     ///
-    /// Out of memory; or one more step is needed. In the second case `work` says that it is
-    /// stopped.
+    /// Out of memory; or one more step or one more open evaluation is needed. In the second case
+    /// `work` says which.
     pub fn solved<'i>(
         &self,
         alloc: Global,
@@ -289,8 +300,8 @@ impl<K: Validate, M: Matcher> CompiledSchema<K, M> {
     ///
     /// # Errors
     ///
-    /// Out of memory; or one more step is needed. In the second case `work` says that it is
-    /// stopped.
+    /// Out of memory; or one more step or one more open evaluation is needed. In the second case
+    /// `work` says which.
     pub fn valid_under_each(
         &self,
         alloc: Global,
@@ -426,8 +437,8 @@ impl<K: Validate, M: Matcher> CompiledSchema<K, M> {
     ///
     /// # Errors
     ///
-    /// Out of memory; or one more step is needed. In the second case `work` says that it is
-    /// stopped.
+    /// Out of memory; or one more step or one more open evaluation is needed. In the second case
+    /// `work` says which.
     pub fn first_under_each<'i>(
         &self,
         alloc: Global,
@@ -463,8 +474,8 @@ impl<K: Validate, M: Matcher> CompiledSchema<K, M> {
     ///
     /// # Errors
     ///
-    /// Out of memory; or one more step is needed. In the second case `work` says that it is
-    /// stopped.
+    /// Out of memory; or one more step or one more open evaluation is needed. In the second case
+    /// `work` says which.
     pub fn all_under_each<'i>(
         &self,
         alloc: Global,
@@ -534,8 +545,8 @@ impl<K: Validate, M: Matcher> CompiledSchema<K, M> {
     ///
     /// # Errors
     ///
-    /// Out of memory; or one more step is needed. In the second case `work` says that it is
-    /// stopped.
+    /// Out of memory; or one more step or one more open evaluation is needed. In the second case
+    /// `work` says which.
     pub fn evaluated_under_each(
         &self,
         alloc: Global,

@@ -20,6 +20,7 @@ use Rattle.schema_node_table.specs.NodeTable.{numbered, shaped_form, shaped_part
 use Rattle.schema_node_table.specs.NodeViews.{entry_of, form_of}
 use Rattle.schema_node_table.specs.declared.node.Entry.{Entry}
 use Rattle.schema_run_steps.specs.Askings.{asking}
+use Rattle.schema_run_steps.specs.Depths.{StandsDeep}
 use Rattle.schema_run_steps.specs.EvaluationPlaces.{CarriesItsNumber, steps_to}
 use Rattle.schema_run_steps.specs.NodeRuns.{HasChildren, HasForm, HasParts, form_at_work}
 use Rattle.schema_run_steps.specs.declared.question.Engine.{Engine}
@@ -76,15 +77,18 @@ module _ {C K M : Type 0} (shape : C → K) (e : Engine C M) (i : ℕ) where
 pub record NodePremise (May : Type 0) (q : Question) (c : Context) : Type 0 where
   pub may : May
   pub carries : CarriesNumber q c
+  pub deep : StandsDeep q
 
 pub record FormPremise (May : Type 0) (q : Question) (c : Context) (Form : Type 0) : Type 0 where
   pub may : May
   pub carries : CarriesNumber q c
+  pub deep : StandsDeep q
   pub form : Form
 
 pub record ChildPremise (May : Type 0) (q : Question) (c : Context) (Children : Type 0) (below : Below) : Type 0 where
   pub may : May
   pub carries : CarriesNumber q c
+  pub deep : StandsDeep q
   pub children : Children
   pub present : HasBelow q below
 
@@ -92,23 +96,27 @@ pub record ChildPremise (May : Type 0) (q : Question) (c : Context) (Children : 
 pub record NodeErrorsPremise (May : Type 0) (q : Question) (c : Context) : Type 0 where
   pub may : May
   pub carries : CarriesNumber q c
+  pub deep : StandsDeep q
   pub more : WantsMore q
 
 pub record PartsErrorsPremise (May : Type 0) (q : Question) (c : Context) (Parts : Type 0) : Type 0 where
   pub may : May
   pub carries : CarriesNumber q c
+  pub deep : StandsDeep q
   pub more : WantsMore q
   pub parts : Parts
 
 pub record FormErrorsPremise (May : Type 0) (q : Question) (c : Context) (Form : Type 0) : Type 0 where
   pub may : May
   pub carries : CarriesNumber q c
+  pub deep : StandsDeep q
   pub more : WantsMore q
   pub form : Form
 
 pub record ChildErrorsPremise (May : Type 0) (q : Question) (c : Context) (Children : Type 0) (below : Below) : Type 0 where
   pub may : May
   pub carries : CarriesNumber q c
+  pub deep : StandsDeep q
   pub more : WantsMore q
   pub children : Children
   pub present : HasBelow q below
@@ -116,6 +124,7 @@ pub record ChildErrorsPremise (May : Type 0) (q : Question) (c : Context) (Child
 pub record FinishedErrorsPremise (May : Type 0) (q : Question) (c : Context) (Finishes : Type 0) : Type 0 where
   pub may : May
   pub carries : CarriesNumber q c
+  pub deep : StandsDeep q
   pub more : WantsMore q
   pub finishes : Finishes
 
@@ -123,12 +132,14 @@ pub record FinishedErrorsPremise (May : Type 0) (q : Question) (c : Context) (Fi
 pub record PartsUnitsPremise (May : Type 0) (q : Question) (c : Context) (pointer : Text) (Parts : Type 0) : Type 0 where
   pub may : May
   pub carries : CarriesNumber q c
+  pub deep : StandsDeep q
   pub pointed : PointsThere q pointer
   pub parts : Parts
 
 pub record FormUnitsPremise (May : Type 0) (q : Question) (c : Context) (pointer : Text) (Form : Type 0) : Type 0 where
   pub may : May
   pub carries : CarriesNumber q c
+  pub deep : StandsDeep q
   pub pointed : PointsThere q pointer
   pub form : Form
 
@@ -136,6 +147,7 @@ pub record FormUnitsPremise (May : Type 0) (q : Question) (c : Context) (pointer
 pub record TurnsPremise (May : Type 0) (q : Question) (c : Context) (Form Begun : Type 0) (a : code_answer.Answer) : Type 0 where
   pub may : May
   pub carries : CarriesNumber q c
+  pub deep : StandsDeep q
   pub form : Form
   pub begun : Begun
   pub no_faults : faults_in a ≡ []

@@ -6,7 +6,7 @@ use Rattle.std.specs.Map.{lookup}
 use Rattle.theory_definitions.specs.Instance.{Text}
 use Rattle.theory_definitions.specs.Pointer.{joined}
 use Rattle.schema_run_context.specs.EvaluationPaths.{path_of}
-use Rattle.schema_run_context.specs.declared.evaluation_path.EvaluationPath.{EvaluationPath, Given, Across', UnderReference', Kept}
+use Rattle.schema_run_context.specs.declared.evaluation_path.EvaluationPath.{EvaluationPath, Given, Across', UnderReference', Kept'}
 
 -- the key of a cached path: the path before the keyword, the keyword's name, and the rest
 pub record PathKey : Type 0 where
@@ -36,7 +36,7 @@ abbrev pub hashed : FoldHasher → EvaluationPath → FoldHasher
 hashed h (Given path) = write h path.now
 hashed h (Across' pointer before added) = write (hashed h before) added.now
 hashed h (UnderReference' pointer before) = hashed h before
-hashed h (Kept texts) = write h texts.now.path
+hashed h (Kept' pointer before texts) = write h texts.now.path
 
 abbrev pub hash_for : EvaluationPath → Text → Text → ℕ
 hash_for path name rest = finish (write (write (hashed initial path) name) rest)

@@ -47,7 +47,8 @@ Verdicts = List ((ℕ × Place) × Bool)
 -- assumes about unfinished matches and remembers of those that it met, the marks of the current run
 -- of a keyword, the last one first, the verdicts that it remembers, the number of guarded visits,
 -- the node numbers that were entered, and those that a verdict is remembered for, the number of
--- 64-bit words in its rows, and the number of nodes that it may still evaluate
+-- 64-bit words in its rows, and the number of nodes that it may still evaluate, with how many may be
+-- open at once
 pub record Context : Type 0 where
   pub root : Value
   pub in_progress : Pairs

@@ -2,10 +2,10 @@
 //!
 //! A path is under a reference if it lies below an entry that is a reference. An edge that a maker
 //! requested for a reference of its own leads to a child of a keyword, so it does not count.
-ghost use Rattle.std.specs.Prelude.{◌≡◌, ◌++◌, IfSome, OnOk, true};
+ghost use Rattle.std.specs.Prelude.{◌≡◌, ◌++◌, IfSome, OnOk, suc, true};
 ghost use Rattle.schema_traits.specs.Showing.{Yields};
 ghost use Rattle.theory_definitions.specs.Pointer.{joined};
-ghost use Rattle.schema_run_context.specs.EvaluationPaths.{GivesPath, is_under_reference, path_of};
+ghost use Rattle.schema_run_context.specs.EvaluationPaths.{GivesPath, edges_in, is_under_reference, path_of};
 
 use crate::unit_paths::UnitTexts;
 use schema_reports::{Location, LocationSegment, OutOfMemory};
@@ -15,13 +15,13 @@ use std::alloc::Global;
 ///
 /// It is a path that the caller supplied, the path before an edge with what the edge adds to it,
 /// the same path as it continues under a reference, or the path of a unit whose texts exist
-/// already.
+/// already, with the path that led to the unit. So it holds each edge that was crossed.
 #[derive(Clone, Copy)]
 pub enum EvaluationPath<'p> {
     Given(&'p Location),
     Across(&'p EvaluationPath<'p>, &'p Location),
     UnderReference(&'p EvaluationPath<'p>),
-    Kept(&'p UnitTexts),
+    Kept(&'p EvaluationPath<'p>, &'p UnitTexts),
 }
 
 // Appends the text of a path.
@@ -35,7 +35,7 @@ fn push_path(whole: &mut Location, path: &EvaluationPath<'_>) -> Result<(), OutO
             whole.push_escaped(added.as_str())
         }
         EvaluationPath::UnderReference(before) => push_path(whole, before),
-        EvaluationPath::Kept(texts) => whole.push_escaped(texts.path.as_str()),
+        EvaluationPath::Kept(_, texts) => whole.push_escaped(texts.path.as_str()),
     }
 }
 
@@ -57,6 +57,7 @@ impl<'p> EvaluationPath<'p> {
     /// Returns the path that the caller supplies.
     pub fn given(path: &'p Location) -> EvaluationPath<'p>
         ensures same { path_of result ≡ path.now }
+        ensures edges { edges_in result ≡ 0 }
     {
         EvaluationPath::Given(path)
     }
@@ -65,6 +66,7 @@ impl<'p> EvaluationPath<'p> {
     pub fn across(&'p self, added: &'p Location) -> EvaluationPath<'p>
         ensures appended { path_of result ≡ path_of self.now ++ added.now }
         ensures under { is_under_reference result ≡ is_under_reference self.now }
+        ensures edges { edges_in result ≡ suc (edges_in self.now) }
     {
         EvaluationPath::Across(self, added)
     }
@@ -73,16 +75,20 @@ impl<'p> EvaluationPath<'p> {
     pub fn under_reference(&'p self) -> EvaluationPath<'p>
         ensures same { path_of result ≡ path_of self.now }
         ensures under { is_under_reference result ≡ true }
+        ensures edges { edges_in result ≡ edges_in self.now }
     {
         EvaluationPath::UnderReference(self)
     }
 
     /// Returns the path of a unit whose texts exist already.
-    pub fn kept(texts: &'p UnitTexts) -> EvaluationPath<'p>
+    ///
+    /// This path led to the unit.
+    pub fn kept(&'p self, texts: &'p UnitTexts) -> EvaluationPath<'p>
         ensures same { path_of result ≡ texts.now.path }
         ensures under { is_under_reference result ≡ texts.now.under_reference }
+        ensures edges { edges_in result ≡ edges_in self.now }
     {
-        EvaluationPath::Kept(texts)
+        EvaluationPath::Kept(self, texts)
     }
 
     /// Returns the texts of the unit that this path belongs to, if they exist.
@@ -92,7 +98,7 @@ impl<'p> EvaluationPath<'p> {
         ensures same { IfSome result (λ t. t.now.path ≡ path_of self.now) }
     {
         match self {
-            EvaluationPath::Kept(texts) => Some(*texts),
+            EvaluationPath::Kept(_, texts) => Some(*texts),
             EvaluationPath::UnderReference(before) => before.kept_texts(),
             _ => None,
         }
@@ -106,7 +112,7 @@ impl<'p> EvaluationPath<'p> {
             EvaluationPath::Given(_) => false,
             EvaluationPath::Across(before, _) => before.is_under_reference(),
             EvaluationPath::UnderReference(_) => true,
-            EvaluationPath::Kept(texts) => texts.under_reference,
+            EvaluationPath::Kept(_, texts) => texts.under_reference,
         }
     }
 
@@ -118,7 +124,7 @@ impl<'p> EvaluationPath<'p> {
                 before.len().saturating_add(added.as_str().len())
             }
             EvaluationPath::UnderReference(before) => before.len(),
-            EvaluationPath::Kept(texts) => texts.path.as_str().len(),
+            EvaluationPath::Kept(_, texts) => texts.path.as_str().len(),
         }
     }
 

@@ -53,7 +53,7 @@ fn left_after<'t>(text: &'t [u8], path: &EvaluationPath<'_>) -> Option<&'t [u8]>
             left.strip_prefix(added.as_str().as_bytes())
         }
         EvaluationPath::UnderReference(before) => left_after(text, before),
-        EvaluationPath::Kept(texts) => text.strip_prefix(texts.path.as_str().as_bytes()),
+        EvaluationPath::Kept(_, texts) => text.strip_prefix(texts.path.as_str().as_bytes()),
     }
 }
 
@@ -67,7 +67,7 @@ fn write_path(hasher: &mut FoldHasher, path: &EvaluationPath<'_>)
             hasher.write(added.as_str().as_bytes());
         }
         EvaluationPath::UnderReference(before) => write_path(hasher, before),
-        EvaluationPath::Kept(texts) => hasher.write(texts.path.as_str().as_bytes()),
+        EvaluationPath::Kept(_, texts) => hasher.write(texts.path.as_str().as_bytes()),
     }
 }
 

@@ -3,7 +3,7 @@
 //! The verdict of a guarded question depends on the pairs that are in progress at its place, and on
 //! no other pairs. So such a verdict is kept and read only if no other node is in progress there.
 //! The marks belong to one run of a keyword, so they are set aside while another one runs.
-ghost use Rattle.std.specs.Prelude.{◌≡◌, ◌≤◌, [], IfOk, IfSome, OnErr, OnOk, true, OnSome};
+ghost use Rattle.std.specs.Prelude.{◌≡◌, ◌≤◌, [], IfOk, IfSome, OnErr, OnOk, false, is_some, true, OnSome};
 ghost use Rattle.std.specs.Borrow.{sem};
 ghost use Rattle.schema_traits.specs.Showing.{Yields};
 ghost use Rattle.unfinished_matches.specs.MatchViews.{reason_of};
@@ -49,7 +49,7 @@ const MEMO_MIN_VISITS: u64 = 16;
 /// - the marks of the current run of a keyword;
 /// - the verdicts that the run remembers, of guarded questions and of shared nodes, and the number
 /// of guarded visits;
-/// - the number of nodes that the run may still evaluate;
+/// - the number of nodes that the run may still evaluate, and how many may be open at once;
 /// - cached evaluation paths and texts of units, which contracts do not see.
 ///
 /// Places are known by their numbers, which are assigned when the first one is requested. The pairs
@@ -181,6 +181,17 @@ impl<'i> ValidationContext<'i> {
         ensures frame { self.new ≡ record self.old { work = self.new.work } }
     {
         self.work.step()
+    }
+
+    /// Records that the run tried to open more questions at once than it may.
+    ///
+    /// The budget stays as it is if it has no such limit. Allocates nothing.
+    pub fn stop_at_depth(&mut self)
+        ensures too_deep { is_some self.old.work.deepest ≡ true → self.new.work ≡ record self.old.work { too_deep = true } }
+        ensures unlimited { is_some self.old.work.deepest ≡ false → self.new.work ≡ self.old.work }
+        ensures frame { self.new ≡ record self.old { work = self.new.work } }
+    {
+        self.work.stop_at_depth();
     }
 
     /// Returns the assumptions, with the unfinished matches that were met.

@@ -1,6 +1,6 @@
-//! The number of nodes that a call may still evaluate.
-ghost use Rattle.std.specs.Prelude.{◌≡◌, ◌-◌, OnErr, OnOk, false, true};
-ghost use Rattle.schema_run_context.specs.Works.{Asks, IsSpent, allowed, left_of, unlimited};
+//! The number of nodes that a call may still evaluate, and how many may be open at once.
+ghost use Rattle.std.specs.Prelude.{◌≡◌, ◌-◌, OnErr, OnOk, false, is_some, true};
+ghost use Rattle.schema_run_context.specs.Works.{Asks, IsBoundedInDepth, IsSpent, allowed, down_to, left_of, unlimited};
 
 use schema_reports::OutOfMemory;
 use std::alloc::AllocError;
@@ -9,25 +9,28 @@ use std::marker::Model;
 /// The number of nodes that a call may still evaluate, if there is a limit.
 ///
 /// It also records whether the call tried to exceed the limit. This happens only once no nodes are
-/// left.
+/// left. And it says how many questions may be open at once, if there is a limit, and records
+/// whether the call tried to open one more.
 #[derive(Clone, Copy)]
 pub struct Work {
     left: u64,
     limited: bool,
     stopped: bool,
+    deepest: Option<usize>,
+    too_deep: bool,
 }
 
 impl Model for Work {
     ghost use Rattle.schema_run_context.specs.Works.{Budget};
-    ghost use Rattle.std.specs.Prelude.{◌≡◌, true};
+    ghost use Rattle.std.specs.Prelude.{◌≡◌, is_some, true};
 
     ghost Value = { Budget };
 
-    ghost view = { λ w. record { left = w.left; limited = w.limited; stopped = w.stopped } };
+    ghost view = { λ w. record { left = w.left; limited = w.limited; stopped = w.stopped; deepest = w.deepest; too_deep = w.too_deep } };
 
-    ghost inverse = { λ b. record { left = b.left; limited = b.limited; stopped = b.stopped } };
+    ghost inverse = { λ b. record { left = b.left; limited = b.limited; stopped = b.stopped; deepest = b.deepest; too_deep = b.too_deep } };
 
-    ghost invariant = { λ w. w.stopped ≡ true → (w.limited ≡ true) × (w.left ≡ 0) };
+    ghost invariant = { λ w. (w.stopped ≡ true → (w.limited ≡ true) × (w.left ≡ 0)) × (w.too_deep ≡ true → is_some w.deepest ≡ true) };
 }
 
 impl Work {
@@ -39,6 +42,8 @@ impl Work {
             left: u64::MAX,
             limited: false,
             stopped: false,
+            deepest: None,
+            too_deep: false,
         }
     }
 
@@ -52,8 +57,39 @@ impl Work {
                 left,
                 limited: true,
                 stopped: false,
+                deepest: None,
+                too_deep: false,
             },
         }
+    }
+
+    /// Sets how many questions may be open at once, if there is a limit.
+    ///
+    /// The call has not tried to open more.
+    pub fn with_depth(self, most: Option<usize>) -> Work
+        ensures down_to { result ≡ down_to most self }
+    {
+        let mut work = self;
+        work.deepest = most;
+        work.too_deep = false;
+        work
+    }
+
+    /// Returns how many questions may be open at once, if there is a limit.
+    pub fn depth_limit(&self) -> Option<usize>
+        ensures deepest { result ≡ self.now.deepest }
+    {
+        self.deepest
+    }
+
+    /// Returns whether the call tried to open more questions at once than it may.
+    ///
+    /// If so, there is a limit.
+    pub fn is_too_deep(&self) -> bool
+        ensures too_deep { result ≡ self.now.too_deep }
+        ensures bounded { result ≡ true → IsBoundedInDepth self.now }
+    {
+        self.too_deep
     }
 
     /// Returns whether the call tried to exceed the limit.
@@ -113,6 +149,19 @@ impl Work {
         if self.limited {
             self.left = 0;
             self.stopped = true;
+        }
+    }
+
+    /// Records that the call tried to open more questions at once than it may.
+    ///
+    /// Does nothing if there is no limit.
+    pub fn stop_at_depth(&mut self)
+        ensures too_deep { is_some self.old.deepest ≡ true → self.new ≡ record self.old { too_deep = true } }
+        ensures unlimited { is_some self.old.deepest ≡ false → self.new ≡ self.old }
+        ensures frame { self.new ≡ record self.old { too_deep = self.new.too_deep } }
+    {
+        if self.deepest.is_some() {
+            self.too_deep = true;
         }
     }
 }

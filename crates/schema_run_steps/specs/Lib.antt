@@ -1,6 +1,7 @@
 pub mod EvaluationPlaces
 pub mod GuardedPairs
 pub mod Askings
+pub mod Depths
 pub mod AnswerModes
 pub mod ReplyModes
 pub mod NodeUnits

@@ -18,7 +18,7 @@ pub use evaluation_place::EvaluationPlace;
 pub use faults::{begun, finished, is_accepting};
 pub use guarded::GuardedPair;
 pub use matches::{finished_match, step_match};
-pub use question::{Engine, NamedKeyword, Question};
+pub use question::{Engine, NamedKeyword, Question, open_question};
 pub use replies::{
     accepted, false_error, is_settled, is_yes, joined, keyword_location, refused, stamped_error,
     stamped_reply,

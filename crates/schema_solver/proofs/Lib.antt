@@ -7,4 +7,5 @@ pub mod Turned
 pub mod Stopping
 pub mod ByQuestions
 pub mod Telling
+pub mod Depths
 mod Says

@@ -1,6 +1,6 @@
 -- Why a solver stops, and what it leaves then.
-use Rattle.std.proofs.Common.{◌≡◌, ◌∙◌, ℕ, ◌<◌, ◌≤◌, Bool, false, inl, inr, refl, subst, sym, true≢false}
-use Rattle.std.specs.Prelude.{Err, IsErrAnd, Ok, Result, Some, ◌⊎◌}
+use Rattle.std.proofs.Common.{◌≡◌, ◌∙◌, ℕ, ◌<◌, ◌≤◌, Bool, false, refl, subst, sym, true≢false}
+use Rattle.std.specs.Prelude.{Err, IsErrAnd, Ok, Result, Some}
 use Rattle.theory_definitions.specs.Instance.{Place}
 use Rattle.theory_definitions.specs.Guarded.{Children, node_keyword}
 use Rattle.schema_run_steps.specs.NodeRuns.{HasForm}
@@ -9,7 +9,7 @@ use Rattle.theory_fixed_points.specs.Found.{Found}
 use Rattle.schema_solver_state.specs.Contexts.{Solver}
 use Rattle.schema_solver_state.specs.Answering.{Begins}
 use Rattle.schema_solver.specs.declared.question.Stopped.{Stopped}
-use Rattle.schema_solver.specs.declared.question.Stopped.TheVariants.{Leans, Limit, OutOfMemory}
+use Rattle.schema_solver.specs.declared.question.Stopped.TheVariants.{Depth, Leans, Limit, OutOfMemory}
 use Rattle.schema_solver.specs.Solved.{Solved, Stops, Turned}
 use Rattle.schema_solver.specs.Solving.{Goes, HasRoom, IsNew, Setting, StaysWithin}
 use Rattle.schema_solver.proofs.Going.{late_on}
@@ -22,10 +22,18 @@ leans_is_no_limit is = cc
 memory_is_no_limit : ¬ (OutOfMemory ≡ Limit)
 memory_is_no_limit is = cc
 
--- for either reason it is not because of a provisional "valid"
-pub not_leaning : (e : Stopped) → (e ≡ OutOfMemory) ⊎ (e ≡ Limit) → ¬ (e ≡ Leans)
-not_leaning e (inl is) leans = cc
-not_leaning e (inr is) leans = cc
+pub depth_is_no_limit : ¬ (Depth ≡ Limit)
+depth_is_no_limit is = cc
+
+-- none of these reasons is a provisional "valid"
+memory_is_no_lean : ¬ (OutOfMemory ≡ Leans)
+memory_is_no_lean is = cc
+
+limit_is_no_lean : ¬ (Limit ≡ Leans)
+limit_is_no_lean is = cc
+
+depth_is_no_lean : ¬ (Depth ≡ Leans)
+depth_is_no_lean is = cc
 
 module _ {K R : Type 0} (g : Setting K R) (says : K → Bool) where
   -- after a step
@@ -47,7 +55,7 @@ module _ {K R : Type 0} (g : Setting K R) (says : K → Bool) where
   -- for lack of memory
   pub stops_for_memory : (c c' : Solver) → StaysWithin g c c' → Stops g says c c' OutOfMemory
   stops_for_memory c c' within = record {
-    reason = λ each. inl refl;
+    reason = λ each. memory_is_no_lean;
     within = within;
     late = λ is. absurd (memory_is_no_limit is);
   }
@@ -58,9 +66,17 @@ module _ {K R : Type 0} (g : Setting K R) (says : K → Bool) where
   -- if no more may be begun
   pub stops_full : (c : Solver) (p : Place) (i : ℕ) → IsNew g c p i → (most : ℕ) → g.most ≡ Some most → most ≤ c.begun → Stops g says c c Limit
   stops_full c p i is_new most limit full = record {
-    reason = λ each. inr refl;
+    reason = λ each. limit_is_no_lean;
     within = λ most limit few. few;
     late = λ is. late_here g c p i is_new most limit full;
+  }
+
+  -- if no more may be under way
+  pub stops_deep : (c : Solver) → Stops g says c c Depth
+  stops_deep c = record {
+    reason = λ each. depth_is_no_lean;
+    within = λ most limit few. few;
+    late = λ is. absurd (depth_is_no_limit is);
   }
 
   -- once a pair has been begun

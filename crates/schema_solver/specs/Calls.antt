@@ -101,6 +101,6 @@ pub record SolvesRoot {C R K M : Type 0} (k : keyword.Ghosts C R K) (m : matcher
   pub rests : IfFound result (RestsOnFound (solver_by k m e) c i)
   pub few : IfFound result (λ _. BeginsFew (solver_by k m e) v c.begun)
   pub within : IfOk result (λ _. IfSome e.most (λ most. c.begun ≤ most))
-  pub stops : IfErr result (λ why. (why ≡ stopped.OutOfMemory) ⊎ (why ≡ stopped.Limit))
+  pub stops : IfErr result (λ why. (why ≡ stopped.OutOfMemory) ⊎ ((why ≡ stopped.Limit) ⊎ (why ≡ stopped.Depth)))
   pub limited : IfAtLimit result (is_some e.most ≡ true)
   pub late : IfAtLimit result (IfSome e.most (LimitWithinBound (solver_by k m e) v))

@@ -1,6 +1,6 @@
 -- The questions of the functions in a solver's cycle, and their results: one record for each.
 use Rattle.std.specs.List.{list_any}
-use Rattle.std.specs.Prelude.{Bool, IfErr, IfOk, List, Option, Result, map, option_map, true, ℕ, ◌==◌, ◌≡◌, ◌⊎◌}
+use Rattle.std.specs.Prelude.{Bool, IfErr, IfOk, List, Option, Result, length, map, option_map, true, ℕ, ◌<◌, ◌==◌, ◌≡◌, ◌≤◌}
 use Rattle.serde_json.specs.View.{view}
 use Rattle.theory_definitions.specs.Instance.{Place, Subject}
 use Rattle.theory_definitions.specs.Guarded.{Children, NodeEdge, NodeForm, NodePart, node_keyword}
@@ -27,7 +27,7 @@ use Rattle.schema_solver_state.specs.Contexts.{Solver, found_of, solver_places}
 use Rattle.schema_solver_state.specs.Saying.{WhatIsSaid}
 use Rattle.schema_solver.specs.declared.question.Asked.{Asked}
 use Rattle.schema_solver.specs.declared.question.Stopped.{Stopped}
-use Rattle.schema_solver.specs.declared.question.Stopped.TheVariants.{Limit, OutOfMemory}
+use Rattle.schema_solver.specs.declared.question.Stopped.TheVariants.{Leans, Limit}
 use Rattle.schema_solver.specs.Solving.{EachSays, Goes, HasEachCut, InEach, IsEdge, IsLate, MaySolve, Setting, StaysWithin}
 
 -- a question at a place: a number, and the same as a pair; entries of a node, the form of an entry,
@@ -66,17 +66,23 @@ says_of (a_form i form) w p f s = FormTells w p f form s.valid s.leans
 says_of (a_child i es q) w p f s = ChildTells w p f es q s.valid s.leans
 says_of (an_edge e) w p f s = EdgeTells w p f e here s.valid s.leans
 
+-- at least as many evaluations are under way as pairs are in progress; their count stays at the
+-- greatest number of 64 bits
+abbrev pub IsAsDeep : ℕ → Solver → Type 0
+IsAsDeep depth c = depth < 18446744073709551615 → length c.in_progress ≤ depth
+
 -- the question may be asked
 pub record MayAsk {K R : Type 0} (g : Setting K R) (q : Asked) (a : Wanted K) (c : Solver) : Type 0 where
   pub may : MaySolve g c (subject_of q.instance) (steps_to q.place.now) (number_in a)
   pub carries : CarriesItsNumber (solver_places c) q.place.now
+  pub deep : IsAsDeep q.depth c
   pub stands : StandsIn g (subject_of q.instance) a
 
--- why it stops, and in which state: only because of memory or the limit, if each keyword says that
+-- why it stops, and in which state: not because of a provisional "valid", if each keyword says that
 -- it is monotone; no more pairs were begun than allowed; and it stops only at a limit that is less
 -- than the bound on pairs
 pub record Stops {K R : Type 0} (g : Setting K R) (says_monotone : K → Bool) (c c' : Solver) (e : Stopped) : Type 0 where
-  pub reason : EachSays says_monotone g.nodes g.count → (e ≡ OutOfMemory) ⊎ (e ≡ Limit)
+  pub reason : EachSays says_monotone g.nodes g.count → ¬ (e ≡ Leans)
   pub within : StaysWithin g c c'
   pub late : e ≡ Limit → IsLate g c
 

@@ -4,7 +4,7 @@ use Rattle.schema_solver_state.specs.Saying.{WhatIsSaid}
 use Rattle.schema_solver.specs.declared.question.Stopped.{Stopped}
 use Rattle.schema_solver.specs.declared.question.Stopped.TheVariants as stopped
 use Rattle.schema_solver.specs.declared.told.Answer.{Answer}
-use Rattle.schema_solver.specs.declared.told.Answer.TheVariants.{Leaning, Leans, Limit, No, OutOfMemory, Yes}
+use Rattle.schema_solver.specs.declared.told.Answer.TheVariants.{Depth, Leaning, Leans, Limit, No, OutOfMemory, Yes}
 
 -- "invalid", a final "valid", a provisional one, or the reason why there is no verdict
 abbrev pub told_by : Answer → Result WhatIsSaid Stopped
@@ -14,6 +14,7 @@ told_by Leaning = Ok (record { valid = true; leans = true })
 told_by OutOfMemory = Err stopped.OutOfMemory
 told_by Leans = Err stopped.Leans
 told_by Limit = Err stopped.Limit
+told_by Depth = Err stopped.Depth
 
 -- nothing more is evaluated after it, if each answer has to have this verdict: it has the other
 -- verdict, or none

@@ -53,13 +53,15 @@ impl Model for Solver {
     ghost view = { λ f. f.followed };
 }
 
-// Records in a call's work that a solver stopped at its limit, if it did.
+// Records in a call's work that a solver stopped at one of its limits, if it did.
 fn stop_at_limit(work: &mut Work, stopped: Stopped)
     ensures limit { stopped ≡ Stopped.Limit → work.old.limited ≡ true → work.new ≡ record work.old { left = 0; stopped = true } }
     ensures other { stopped ≡ Stopped.OutOfMemory → work.new ≡ work.old }
+    ensures depth { stopped ≡ Stopped.Depth → work.new ≡ record work.old { too_deep = work.new.too_deep } }
 {
     match stopped {
         Stopped::Limit => work.stop(),
+        Stopped::Depth => work.stop_at_depth(),
         Stopped::OutOfMemory => (),
         Stopped::Leans => (),
     }
@@ -123,8 +125,9 @@ impl Solver {
     /// # Errors
     ///
     /// Out of memory, and then the work is unchanged; or one more pair is needed than the work has
-    /// left, and then the work says that it is stopped. The second happens only if less than that
-    /// bound is left.
+    /// left, and then the work says that it is stopped; or one more evaluation has to be under way at
+    /// once than the work allows, and then the work says so, and is otherwise unchanged. The second
+    /// happens only if less than that bound is left.
     pub fn verdict<'i, K: Validate, M: Matcher>(
         &self,
         alloc: Global,
@@ -153,7 +156,7 @@ impl Solver {
         ensures late { OnErr result (work.old.stopped ≡ false → work.new.stopped ≡ true
             → IfSome self.now (λ followed. LimitWithinBound
             (solver_over K.words K.is_whole K.shape nodes.now followed (M.matching matcher.now)) instance.now work.old.left)) }
-        ensures stays { OnErr result (work.new.stopped ≡ false → work.new ≡ work.old) }
+        ensures stays { OnErr result (work.new.stopped ≡ false → work.new ≡ record work.old { too_deep = work.new.too_deep }) }
     {
         if let Some(followed) = &self.followed {
             if finishes {
@@ -163,6 +166,7 @@ impl Solver {
                     matcher,
                     followed,
                     most: work.left(),
+                    deepest: work.depth_limit(),
                 };
                 let mut context = SolverContext::new(alloc, PlacesOnDemand::of(instance));
                 match solve_root(&engine, node, instance, &mut context) {

@@ -40,8 +40,9 @@ use serde_json::Value;
 ///
 /// # Errors
 ///
-/// `OutOfMemory`; or `Limit`, if the engine has a limit and one more pair is needed. That happens
-/// only if the limit is less than g * p * g.
+/// `OutOfMemory`; `Limit`, if the engine has a limit on pairs and one more is needed, which happens
+/// only if the limit is less than g * p * g; or `Depth`, if it has a limit on the evaluations that
+/// are under way at once and one more is needed.
 pub fn solve_root<'i, K: Validate, M: Matcher>(
     engine: &SolverEngine<'_, K, M>,
     node: SchemaNode,
@@ -59,13 +60,18 @@ pub fn solve_root<'i, K: Validate, M: Matcher>(
     let asked = Asked {
         instance: Instance::Value(instance),
         place: &place,
+        depth: 0,
     };
+    if !engine.has_room(0) {
+        return Err(Stopped::Depth);
+    }
     match solve_node(engine, node, &asked, context).result() {
         Ok(said) => Ok(Some(said.valid())),
         Err(stopped) => match stopped {
             Stopped::Leans => Ok(None),
             Stopped::OutOfMemory => Err(Stopped::OutOfMemory),
             Stopped::Limit => Err(Stopped::Limit),
+            Stopped::Depth => Err(Stopped::Depth),
         },
     }
 }

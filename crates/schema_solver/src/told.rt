@@ -21,6 +21,7 @@ enum Answer {
     OutOfMemory,
     Leans,
     Limit,
+    Depth,
 }
 
 /// A verdict that may be provisional, or the reason why there is none.
@@ -84,6 +85,7 @@ impl Told {
                 Stopped::OutOfMemory => Answer::OutOfMemory,
                 Stopped::Leans => Answer::Leans,
                 Stopped::Limit => Answer::Limit,
+                Stopped::Depth => Answer::Depth,
             },
         }
     }
@@ -98,6 +100,7 @@ impl Told {
             Answer::OutOfMemory => Err(Stopped::OutOfMemory),
             Answer::Leans => Err(Stopped::Leans),
             Answer::Limit => Err(Stopped::Limit),
+            Answer::Depth => Err(Stopped::Depth),
             _ => Ok(Said::of(!self.ends(true), self.leans())),
         }
     }
@@ -116,6 +119,7 @@ impl Told {
             Answer::OutOfMemory => true,
             Answer::Leans => true,
             Answer::Limit => true,
+            Answer::Depth => true,
         }
     }
 
@@ -133,6 +137,7 @@ impl Told {
             Answer::OutOfMemory => false,
             Answer::Leans => false,
             Answer::Limit => false,
+            Answer::Depth => false,
         }
     }
 }

@@ -60,8 +60,8 @@ module _ {S K R : Type 0} (resolver : Resolver S) (owns : Text → Bool) (script
 
     -- and so is a validator that is made of them, in the draft of the schema's root
     pub program_alone : {M : Type 0} (schema : Data) (root : Key S) → IsRootKey (root_parts resolver options) schema root → (matching : M → Matcher) (p : Program C M)
-        → (p.nodes ≡ nodes) × (p.root ≡ 0) × (p.draft ≡ root.target.draft) → matching p.matcher ≡ matcher → p.runs ≡ options.runs → p.work ≡ options.work → IsProgramFrom resolver table matcher options nested schema shape matching key p
-    program_alone schema root is_root matching p made same runs work =
+        → (p.nodes ≡ nodes) × (p.root ≡ 0) × (p.draft ≡ root.target.draft) → matching p.matcher ≡ matcher → p.runs ≡ options.runs → p.work ≡ options.work → p.depth ≡ options.depth → IsProgramFrom resolver table matcher options nested schema shape matching key p
+    program_alone schema root is_root matching p made same runs work depth =
         let whole = whole_too resolver table matcher no_matcher keywords no_keywords options shape nested key nodes 0 (whole_in resolver owns script matcher keywords options shape limit nested key keys nodes done) in
         record {
           compiled = subst (λ number. IsWhole free shape nested key p.nodes number) (sym made.1) (subst (λ ns. IsWhole free shape nested key ns 0) (sym made.0) whole);
@@ -69,4 +69,5 @@ module _ {S K R : Type 0} (resolver : Resolver S) (owns : Text → Bool) (script
           matcher_is = same;
           runs_are = runs;
           work_is = work;
+          depth_is = depth;
         }

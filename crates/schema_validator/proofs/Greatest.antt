@@ -144,4 +144,4 @@ module _ {S K R C M : Type 0} (h : Handed S K R C M) (keeps : (texts : Bool) →
         let one = one_root_key w0 schema program.root root program.is_root
         (root_key_too h.resolver h.table h.table h.matcher no_matcher (h.words texts) no_keywords options schema root (root_key_of (w texts) schema root is_root)) in
         subst (λ (k : Key S). AcceptAlike h options texts k p) one
-        (accepts_as_key program.root (record { compiled = program.compiled; drafted = program.drafted; matcher_is = program.matcher_is; runs_are = program.runs_are; work_is = program.work_is }) texts)
+        (accepts_as_key program.root (record { compiled = program.compiled; drafted = program.drafted; matcher_is = program.matcher_is; runs_are = program.runs_are; work_is = program.work_is; depth_is = program.depth_is }) texts)

@@ -108,6 +108,7 @@ module _ {S K R C M : Type 0} (resolver : Resolver S) (table : Table K) (matcher
       matcher_is = program.matcher_is;
       runs_are = program.runs_are;
       work_is = program.work_is;
+      depth_is = program.depth_is;
     }
 
     pub points_into : IsProgramOf resolver table matcher options nested schema shape matching p → PointsIntoSchema resolver table matcher words options schema shape matching p

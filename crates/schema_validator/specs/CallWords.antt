@@ -1,5 +1,5 @@
--- The parts of a validator, and the answers of its calls: if they may stop at its limit on steps,
--- and if they use its solver.
+-- The parts of a validator, and the answers of its calls: if they may stop at one of its limits, and
+-- if they use its solver.
 use Rattle.std.specs.Prelude.{All, Bool, IfSome, List, Option, Result, false, is_some, true, ℕ, ◌≡◌}
 use Rattle.serde_json.specs.Data.{Data}
 use Rattle.serde_json.specs.View.{view}
@@ -30,10 +30,10 @@ AllAreMonotone k p = (texts : Bool) → NodesAreMonotone k.shape k.words p texts
 -- ---- an answer of which a word of a call says something, as those of `Asked` and `Greatest`
 
 module _ {C Run K M : Type 0} (k : KeywordMembers C Run K) (m : MatcherMembers M) (p : Program C M) (instance : Value) where
-  -- this holds of the verdict; or the call stopped at the validator's limit, and the verdict is
+  -- this holds of the verdict; or the call stopped at a limit of the validator, and the verdict is
   -- `false`
   abbrev pub IsSoOrNo : (KeywordMembers C Run K → MatcherMembers M → Program C M → Data → Bool → Type 0) → Bool → Type 0
-  IsSoOrNo fact valid = UnlessStopped p.work (λ limit. valid ≡ false) (fact k m p (view instance) valid)
+  IsSoOrNo fact valid = UnlessStopped p.work p.depth (λ limit. valid ≡ false) (fact k m p (view instance) valid)
 
   -- this holds of the first error, or of none
   abbrev pub FirstIsSo : (KeywordMembers C Run K → MatcherMembers M → Program C M → Data → Option ValidationError → Type 0)
@@ -44,18 +44,18 @@ module _ {C Run K M : Type 0} (k : KeywordMembers C Run K) (m : MatcherMembers M
   -- limit
   abbrev pub FirstIsSoOrTells : (KeywordMembers C Run K → MatcherMembers M → Program C M → Data → Option ValidationError → Type 0)
       → Result (Unit {0}) ValidationError → Type 0
-  FirstIsSoOrTells fact r = UnlessStopped p.work (FirstTellsLimit (view instance) (refusal_of r)) (fact k m p (view instance) (refusal_of r))
+  FirstIsSoOrTells fact r = UnlessStopped p.work p.depth (FirstTellsLimit (view instance) (refusal_of r)) (fact k m p (view instance) (refusal_of r))
 
   -- this holds of the errors; or the call stopped there, and the only error reports the limit
   abbrev pub AreSoOrTell : (KeywordMembers C Run K → MatcherMembers M → Program C M → Data → List ValidationError → Type 0)
       → List ValidationError → Type 0
-  AreSoOrTell fact es = UnlessStopped p.work (OnlyTellsLimit (view instance) es) (fact k m p (view instance) es)
+  AreSoOrTell fact es = UnlessStopped p.work p.depth (OnlyTellsLimit (view instance) es) (fact k m p (view instance) es)
 
   -- this holds of the units; or the call stopped there, and they are made of the error that reports
   -- the limit
   abbrev pub AreSoOrGiveLimit : (KeywordMembers C Run K → MatcherMembers M → Program C M → Data → EvaluationNode → Type 0)
       → EvaluationNode → Type 0
-  AreSoOrGiveLimit fact u = UnlessStopped p.work (GivesLimit u) (fact k m p (view instance) u)
+  AreSoOrGiveLimit fact u = UnlessStopped p.work p.depth (GivesLimit u) (fact k m p (view instance) u)
 
 -- ---- what errors borrow
 

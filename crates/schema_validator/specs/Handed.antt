@@ -29,6 +29,9 @@ pub record Options : Type 0 where
   -- how many steps a call takes at most, if there is a limit: each evaluation of a node at a place
   -- is a step, and each pair that a solver begins
   pub work : Option ℕ
+  -- how many evaluations a call may have open at once, if there is a limit: each node that a run asks
+  -- is open until it has answered, and so is each evaluation that a solver begins
+  pub depth : Option ℕ
   -- how many targets of references are compiled one inside another
   pub nested : ℕ
 
@@ -41,7 +44,7 @@ abbrev pub default_nested : ℕ
 default_nested = 8
 
 abbrev pub default_options : Options
-default_options = record { draft = None; base = None; formats = None; declared = []; limit = 65536; checks = true; runs = default_runs; work = None; nested = default_nested }
+default_options = record { draft = None; base = None; formats = None; declared = []; limit = 65536; checks = true; runs = default_runs; work = None; depth = None; nested = default_nested }
 
 -- options with these limits on runs and on nested targets, and otherwise the same
 abbrev pub limited : Options → ℕ → ℕ → Options

@@ -25,6 +25,7 @@ module _ {S K C M : Type 0} (resolver : Resolver S) (table : Table K) (matcher :
     pub matcher_is : matching p.matcher ≡ matcher
     pub runs_are : p.runs ≡ options.runs
     pub work_is : p.work ≡ options.work
+    pub depth_is : p.depth ≡ options.depth
 
   -- it is compiled from the root's key, for which there is no cause of refusal
   pub record IsProgramOf (p : Program C M) : Type 0 where
@@ -36,3 +37,4 @@ module _ {S K C M : Type 0} (resolver : Resolver S) (table : Table K) (matcher :
     pub matcher_is : matching p.matcher ≡ matcher
     pub runs_are : p.runs ≡ options.runs
     pub work_is : p.work ≡ options.work
+    pub depth_is : p.depth ≡ options.depth

@@ -1,5 +1,5 @@
 //! Why a call within a budget returns no answer, and what a call takes of its budget.
-ghost use Rattle.schema_validator.specs.Budgets.{IsCharged, NamesLimit};
+ghost use Rattle.schema_validator.specs.Budgets.{IsCharged, NamesLimit, StepsAreTaken};
 
 use schema_run_context::Work;
 use std::error::Error;
@@ -12,6 +12,8 @@ pub enum CallError {
     OutOfMemory,
     /// The call needs one more step than its budget has left.
     WorkLimit,
+    /// The call has to open one more evaluation at once than its budget allows.
+    DepthLimit,
 }
 
 impl fmt::Display for CallError {
@@ -19,6 +21,7 @@ impl fmt::Display for CallError {
         match self {
             CallError::OutOfMemory => write!(f, "memory could not be had"),
             CallError::WorkLimit => write!(f, "the limit on steps was reached"),
+            CallError::DepthLimit => write!(f, "the limit on nested evaluations was reached"),
         }
     }
 }
@@ -32,18 +35,40 @@ impl fmt::Debug for CallError {
 
 impl Error for CallError {}
 
+// Returns a budget as it is after a call took its steps from a copy of it. The limit on depth stays,
+// and no flag of it is set.
+fn after_steps(work: Work, copy: Work) -> Work
+    ensures { StepsAreTaken work copy result }
+{
+    let deepest = work.depth_limit();
+    if let Some(before) = work.left() {
+        if let Some(left) = copy.left() {
+            if left <= before {
+                return copy.with_depth(deepest);
+            }
+        }
+    }
+    work.with_depth(deepest)
+}
+
+// Returns a budget as it is after a call. It says that it was too small in depth if the copy does.
+fn after_call(work: Work, copy: Work) -> Work
+    ensures { IsCharged work copy result }
+{
+    let mut after = after_steps(work, copy);
+    if !copy.is_too_deep() {
+        return after;
+    }
+    after.stop_at_depth();
+    after
+}
+
 // Charges a budget with what a call took of a copy of it. A budget without a limit stays as it is,
 // and none gets more than it had, whatever the call did with the copy.
 pub(crate) fn charge(work: &mut Work, copy: Work)
     ensures { IsCharged work.old copy work.new }
 {
-    if let Some(before) = work.left() {
-        if let Some(left) = copy.left() {
-            if left <= before {
-                *work = copy;
-            }
-        }
-    }
+    *work = after_call(*work, copy);
 }
 
 // Charges a budget in the same manner, and returns why the call has no answer.
@@ -53,8 +78,10 @@ pub(crate) fn charge_failure(work: &mut Work, copy: Work) -> CallError
 {
     charge(work, copy);
     if work.is_stopped() {
-        CallError::WorkLimit
-    } else {
-        CallError::OutOfMemory
+        return CallError::WorkLimit;
     }
+    if work.is_too_deep() {
+        return CallError::DepthLimit;
+    }
+    CallError::OutOfMemory
 }

@@ -38,6 +38,7 @@ pub(crate) fn of_compiled_within<S: Resolver, T: KeywordTable<K>, K: Validate, M
     ensures made { IfOk result (IsMadeOf nodes root.0 (draft_of draft)) }
     ensures runs { IfOk result (λ v. v.runs ≡ limits.runs) }
     ensures work { IfOk result (λ v. v.work ≡ limits.work) }
+    ensures depth { IfOk result (λ v. v.depth ≡ limits.depth) }
     ensures solver { IfOk result (λ v. v.followed ≡ finder) }
     ensures matcher { IfOk result (λ v. M.matching v.matcher ≡ M.matching matcher.now) }
     ensures finishing { IfOk result (λ v. M.finishing v.matcher ≡ M.finishing matcher.now) }

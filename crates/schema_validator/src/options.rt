@@ -26,8 +26,9 @@ const DEFAULT_NESTED_LIMIT: usize = 8;
 /// For the build: the draft and the base of the root, whether the meta validators check the schema,
 /// whether formats are checked, which custom vocabularies are declared, how many keys may be
 /// reached, and how many targets of references are compiled one inside another. For a call: how
-/// many runs it makes at most for unfinished matches, and how many steps it takes at most, if there
-/// is a limit. The schema and the resolver decide whatever is not set.
+/// many runs it makes at most for unfinished matches, how many steps it takes at most, and how many
+/// evaluations it has open at once at most, if there are such limits. The schema and the resolver
+/// decide whatever is not set.
 #[derive(Drop)]
 pub struct ValidationOptions {
     draft: Option<Draft>,
@@ -36,6 +37,7 @@ pub struct ValidationOptions {
     checks: bool,
     run_limit: u32,
     work_limit: Option<u64>,
+    depth_limit: Option<usize>,
     nested_limit: usize,
 }
 
@@ -55,6 +57,7 @@ impl Model for ValidationOptions {
       checks = o.checks;
       runs = o.run_limit;
       work = o.work_limit;
+      depth = o.depth_limit;
       nested = o.nested_limit;
     } };
 
@@ -81,6 +84,7 @@ impl ValidationOptions {
             checks: true,
             run_limit: MAX_ASSUMED_RUNS,
             work_limit: None,
+            depth_limit: None,
             nested_limit: DEFAULT_NESTED_LIMIT,
         }
     }
@@ -144,6 +148,21 @@ impl ValidationOptions {
     {
         let mut options = self;
         options.work_limit = Some(limit);
+        options
+    }
+
+    /// Sets how many evaluations a call has open at once at most.
+    ///
+    /// An evaluation is open until it has an answer: of a node that a run asks, and of what a solver
+    /// begins in answer to a keyword's question, for a reference beside other keywords, and for a
+    /// pair. So the limit bounds the stack that a call takes. A call that would open one more stops:
+    /// `is_valid` returns `false`, and the other calls return one failure, with the text `The limit
+    /// of N nested evaluations was reached`. By default there is no limit.
+    pub fn with_depth_limit(self, limit: usize) -> ValidationOptions
+        ensures depth { result ≡ record self { depth = Some limit } }
+    {
+        let mut options = self;
+        options.depth_limit = Some(limit);
         options
     }
 

@@ -78,11 +78,11 @@ impl<K: Validate, M: Matcher> Validator<K, M> {
     /// Returns a validator of compiled nodes.
     ///
     /// The arguments are the nodes, the number of the root's node, the root's draft, and the
-    /// matcher. The validator's calls make at most 64 runs for unfinished matches and take any
-    /// number of steps, and it has no solver.
+    /// matcher. The validator's calls make at most 64 runs for unfinished matches, take any number of
+    /// steps and open any number of evaluations at once, and it has no solver.
     pub fn of_nodes(nodes: Nodes<K>, root: SchemaNode, draft: Draft, matcher: M) -> Validator<K, M>
         requires inside { root.0 < length nodes }
-        ensures made { result ≡ program_with nodes root.0 (draft_of draft) matcher default_runs None None }
+        ensures made { result ≡ program_with nodes root.0 (draft_of draft) matcher default_runs None None None }
     {
         Validator::of_nodes_within(
             nodes,
@@ -92,6 +92,7 @@ impl<K: Validate, M: Matcher> Validator<K, M> {
             CallLimits {
                 runs: MAX_ASSUMED_RUNS,
                 work: None,
+                depth: None,
             },
             Solver::none(),
         )
@@ -108,7 +109,7 @@ impl<K: Validate, M: Matcher> Validator<K, M> {
     ) -> Validator<K, M>
         requires inside { root.0 < length nodes }
         requires limit { 1 ≤ limits.runs }
-        ensures made { result ≡ program_with nodes root.0 (draft_of draft) matcher limits.runs limits.work finder }
+        ensures made { result ≡ program_with nodes root.0 (draft_of draft) matcher limits.runs limits.work limits.depth finder }
     {
         Validator {
             schema: CompiledSchema::of_nodes(nodes, root, draft, matcher, limits, finder),
@@ -129,6 +130,13 @@ impl<K: Validate, M: Matcher> Validator<K, M> {
         ensures work { result ≡ self.now.work }
     {
         self.schema.work_limit()
+    }
+
+    /// Returns how many evaluations a call has open at once at most, if there is a limit.
+    pub fn depth_limit(&self) -> Option<usize>
+        ensures depth { result ≡ self.now.depth }
+    {
+        self.schema.depth_limit()
     }
 
     /// Returns the draft of the schema's root.
@@ -185,9 +193,10 @@ impl<K: Validate, M: Matcher> Validator<K, M> {
     ///
     /// # Errors
     ///
-    /// `OutOfMemory`; or `WorkLimit`, if the call needs one more step than `work` has left. In the
-    /// second case `work` has a limit, says that it is stopped, and allows no more. No more is left
-    /// of it than before in any case.
+    /// `OutOfMemory`; `WorkLimit`, if the call needs one more step than `work` has left; or
+    /// `DepthLimit`, if it needs one more evaluation open at once than `work` allows. In the second
+    /// case `work` has a limit on steps, says that it is stopped, and allows no more. In the third
+    /// it has a limit on depth. No more is left of it than before in any case.
     pub fn is_valid_within(
         &self,
         alloc: Global,
@@ -262,8 +271,10 @@ impl<K: Validate, M: Matcher> Validator<K, M> {
     ///
     /// # Errors
     ///
-    /// `OutOfMemory`; or `WorkLimit`, if the call needs to begin one more pair than `work` has left.
-    /// In the second case `work` has a limit, and says that it is stopped.
+    /// `OutOfMemory`; `WorkLimit`, if the call needs to begin one more pair than `work` has left; or
+    /// `DepthLimit`, if it needs one more evaluation under way at once than `work` allows. In the
+    /// second case `work` has a limit on steps, and says that it is stopped. In the third it has a
+    /// limit on depth.
     pub fn solve_within<'i>(
         &self,
         alloc: Global,
@@ -303,9 +314,10 @@ impl<K: Validate, M: Matcher> Validator<K, M> {
     ///
     /// # Errors
     ///
-    /// `OutOfMemory`; or `WorkLimit`, if the call needs one more step than `work` has left. In the
-    /// second case `work` has a limit, says that it is stopped, and allows no more. No more is left
-    /// of it than before in any case.
+    /// `OutOfMemory`; `WorkLimit`, if the call needs one more step than `work` has left; or
+    /// `DepthLimit`, if it needs one more evaluation open at once than `work` allows. In the second
+    /// case `work` has a limit on steps, says that it is stopped, and allows no more. In the third
+    /// it has a limit on depth. No more is left of it than before in any case.
     pub fn validate_within<'i>(
         &self,
         alloc: Global,
@@ -343,9 +355,10 @@ impl<K: Validate, M: Matcher> Validator<K, M> {
     ///
     /// # Errors
     ///
-    /// `OutOfMemory`; or `WorkLimit`, if the call needs one more step than `work` has left. In the
-    /// second case `work` has a limit, says that it is stopped, and allows no more. No more is left
-    /// of it than before in any case.
+    /// `OutOfMemory`; `WorkLimit`, if the call needs one more step than `work` has left; or
+    /// `DepthLimit`, if it needs one more evaluation open at once than `work` allows. In the second
+    /// case `work` has a limit on steps, says that it is stopped, and allows no more. In the third
+    /// it has a limit on depth. No more is left of it than before in any case.
     pub fn iter_errors_within<'i>(
         &self,
         alloc: Global,
@@ -381,9 +394,10 @@ impl<K: Validate, M: Matcher> Validator<K, M> {
     ///
     /// # Errors
     ///
-    /// `OutOfMemory`; or `WorkLimit`, if the call needs one more step than `work` has left. In the
-    /// second case `work` has a limit, says that it is stopped, and allows no more. No more is left
-    /// of it than before in any case.
+    /// `OutOfMemory`; `WorkLimit`, if the call needs one more step than `work` has left; or
+    /// `DepthLimit`, if it needs one more evaluation open at once than `work` allows. In the second
+    /// case `work` has a limit on steps, says that it is stopped, and allows no more. In the third
+    /// it has a limit on depth. No more is left of it than before in any case.
     pub fn evaluate_within(
         &self,
         alloc: Global,

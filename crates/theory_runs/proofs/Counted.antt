@@ -25,7 +25,7 @@ module _ {K R : Type 0} (g : Setting K R) (q : Question) (i : ℕ) (c c1 : Conte
   may_evaluate h = subst (λ (z : Context). MayEvaluate g (asking q) z i) (sym frame) (record { known = h.known; ranked = h.ranked; above = h.above; wanted = h.wanted; stands = h.stands; goes_on = h.goes_on })
 
   pub is_asked : IsAsked g q (a_node i) c → IsAsked g q (a_plan i) c1
-  is_asked h = record { may = may_run h.may; carries = carried h.carries; verdict = h.verdict; stands = tt }
+  is_asked h = record { may = may_run h.may; carries = carried h.carries; deep = h.deep; verdict = h.verdict; stands = tt }
 
   module _ {E : Type 0} (asks : Asks c.work c1.work) (c' : Context) where
     pub answers : (result : Result Bool E) → Answers g q (a_plan i) c1 c' result → Answers g q (a_node i) c c' result

@@ -3,13 +3,13 @@ use Rattle.std.proofs.Common.{◌≡◌, ◌∙◌, arith, refl, subst, sym}
 use Rattle.schema_run_context.specs.Works.{Asks, Budget, Spends}
 
 pub spends_none : (w : Budget) → Spends w w
-spends_none w = record { limited = refl; left = omega arith }
+spends_none w = record { limited = refl; left = omega arith; deepest = refl }
 
 pub spends_on : (a b c : Budget) → Spends a b → Spends b c → Spends a c
 spends_on a b c h k =
     let more = h.left in
     let less = k.left in
-    record { limited = k.limited ∙ h.limited; left = omega (arith, more, less) }
+    record { limited = k.limited ∙ h.limited; left = omega (arith, more, less); deepest = k.deepest ∙ h.deepest }
 
 pub spends_same : (a b : Budget) → b ≡ a → Spends a b
 spends_same a b e = subst (Spends a) (sym e) (spends_none a)
@@ -19,7 +19,7 @@ pub spends_between : (a b c d : Budget) → b ≡ a → d ≡ c → Spends b c �
 spends_between a b c d e f h = subst (λ (z : Budget). Spends z d) e (subst (Spends b) (sym f) h)
 
 pub asks_spends : (a b : Budget) → Asks a b → Spends a b
-asks_spends a b h = record { limited = h.limited; left = h.left }
+asks_spends a b h = record { limited = h.limited; left = h.left; deepest = h.deepest }
 
 pub asks_then : (a b c : Budget) → Asks a b → Spends b c → Asks a c
 asks_then a b c h k = record {
@@ -32,4 +32,5 @@ asks_then a b c h k = record {
       let more = h.fewer is in
       let less = k.left in
       omega (arith, more, less);
+  deepest = k.deepest ∙ h.deepest;
 }

@@ -19,6 +19,7 @@ use Rattle.schema_node_table.specs.NodeTable.{shaped_form, shaped_part}
 use Rattle.schema_node_table.specs.NodeViews.{entry_of, form_of}
 use Rattle.schema_node_table.specs.declared.node.Entry.{Entry}
 use Rattle.schema_run_steps.specs.Askings.{Asking, asking}
+use Rattle.schema_run_steps.specs.Depths.{StandsDeep}
 use Rattle.schema_run_steps.specs.EvaluationPlaces.{CarriesItsNumber}
 use Rattle.schema_run_steps.specs.NodeRuns.{HasChildren, HasForm, HasParts, form_at_work}
 use Rattle.schema_reports.specs.declared.evaluation.EvaluationNode.{EvaluationNode}
@@ -130,6 +131,7 @@ module _ {K R : Type 0} (g : Setting K R) (q : Asking) where
 pub record IsAsked {K R : Type 0} (g : Setting K R) (q : Question) (a : Wanted K) (c : Context) : Type 0 where
   pub may : MayRun g (asking q) c (number_in a)
   pub carries : CarriesItsNumber (places_in c) q.place.now
+  pub deep : StandsDeep q
   pub verdict : mode_of q.mode ≡ for_verdict
   pub stands : StandsIn g (asking q) a
 

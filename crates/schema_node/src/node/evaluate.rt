@@ -2,6 +2,8 @@
 //!
 //! These functions form a cycle of their own and are not a further mode of `run`, because a run
 //! never requests the unit of a child, by the law of the keyword type.
+ghost use Rattle.std.specs.Prelude.{◌≡◌};
+ghost use Rattle.schema_run_context.specs.Works.{HasRoom};
 ghost use Rattle.schema_node.specs.Premises.{ChildMayEvaluate, EntriesMayEvaluate, EntryMayEvaluate, KeywordMayEvaluate, NodeMayEvaluate};
 ghost use Rattle.schema_node.specs.RunAnswers.{UnitOfChild, UnitOfEdge, UnitOfNode, UnitOfPlan, UnitsOfEntries, UnitsOfEntry};
 ghost use Rattle.schema_node.specs.RunAnswers.{UnitsOfKeyword};
@@ -9,16 +11,32 @@ ghost use Rattle.schema_node.specs.RunAnswers.{UnitsOfKeyword};
 use crate::node::turns::keyword_answer;
 use schema_node_table::{Entry, EntryForm, NodeForm};
 use schema_reports::{ChildList, EvaluationNode, OutOfMemory, SharedLocation};
-use schema_run_context::{EvaluationPath, ValidationContext, child_edge};
+use schema_run_context::{ValidationContext, child_edge};
 use schema_run_steps::{
     Engine, EntryUnits, GuardedPair, NamedKeyword, Question, UnitsInOrder, accepting_unit,
-    entries_unit, one_below, refusing_unit, unasked_unit, units_of_keyword, units_of_reference,
+    entries_unit, one_below, open_question, refusing_unit, unasked_unit, units_of_keyword,
+    units_of_reference,
 };
 use schema_traits::{Below, Edge, Matcher, SchemaNode, Validate};
 
-// Returns the unit of a node at a place. Counts the node.
+// Returns the unit of the node with which an evaluation begins. The engine has the context's limit
+// on depth.
+pub(crate) fn evaluate_root<'i, K: Validate, M: Matcher>(
+    engine: &Engine<'_, K, M>,
+    node: SchemaNode,
+    question: &Question<'_, 'i>,
+    context: &mut ValidationContext<'i>,
+) -> Result<EvaluationNode, OutOfMemory>
+    requires may_evaluate { NodeMayEvaluate K.Validate M.Matcher.own engine.now question.now context.old node.0 }
+    requires limit { engine.now.deepest ≡ context.old.work.deepest }
+    ensures { UnitOfNode K.Validate M.Matcher.own engine.now question.now node.0 context.old context.new result }
+{
+    evaluate_node(engine, node, question, context)
+}
+
+// Returns the unit of a node at a place. Counts the node, and stops if too many questions are open.
 #[cycle(run)]
-pub(crate) fn evaluate_node<'i, K: Validate, M: Matcher>(
+fn evaluate_node<'i, K: Validate, M: Matcher>(
     engine: &Engine<'_, K, M>,
     node: SchemaNode,
     question: &Question<'_, 'i>,
@@ -27,7 +45,7 @@ pub(crate) fn evaluate_node<'i, K: Validate, M: Matcher>(
     requires { NodeMayEvaluate K.Validate M.Matcher.own engine.now question.now context.old node.0 }
     ensures { UnitOfNode K.Validate M.Matcher.own engine.now question.now node.0 context.old context.new result }
 {
-    context.step()?;
+    open_question(engine, question, context)?;
     evaluate_plan(engine, node, question, context)
 }
 
@@ -39,7 +57,8 @@ fn evaluate_plan<'i, K: Validate, M: Matcher>(
     question: &Question<'_, 'i>,
     context: &mut ValidationContext<'i>,
 ) -> Result<EvaluationNode, OutOfMemory>
-    requires { NodeMayEvaluate K.Validate M.Matcher.own engine.now question.now context.old node.0 }
+    requires may_evaluate { NodeMayEvaluate K.Validate M.Matcher.own engine.now question.now context.old node.0 }
+    requires room { HasRoom engine.now.deepest question.now.depth }
     ensures { UnitOfPlan K.Validate M.Matcher.own engine.now question.now node.0 context.old context.new result }
 {
     let found = engine.nodes.node(node);
@@ -52,7 +71,7 @@ fn evaluate_plan<'i, K: Validate, M: Matcher>(
                 let kept = context.node_texts(engine.alloc, question.path, &found.location)?;
                 let place = question.place.pointer(engine.alloc)?;
                 let pointer = SharedLocation::new(engine.alloc, place)?;
-                let path = EvaluationPath::kept(&kept);
+                let path = question.path.kept(&kept);
                 let asked = Question {
                     path: &path,
                     ..*question
@@ -197,17 +216,21 @@ fn evaluate_edge<'i, K: Validate, M: Matcher>(
 {
     let whole = question.path.across(&edge.path);
     if !edge.guarded {
+        let depth = question.depth_below();
         let asked = Question {
             path: &whole,
+            depth,
             ..*question
         };
         return evaluate_node(engine, edge.node, &asked, context);
     }
     let pair = GuardedPair::new(context, edge.node, question.place)?;
     let place = pair.numbered_place();
+    let depth = question.depth_below();
     let asked = Question {
         place: &place,
         path: &whole,
+        depth,
         ..*question
     };
     if pair.is_in_progress(context) {

@@ -6,6 +6,7 @@
 //! replies to the earlier children let a valid item be expected, which `turns` counts. An item that
 //! is validated twice counts twice as work.
 ghost use Rattle.std.specs.Prelude.{◌≡◌, true};
+ghost use Rattle.schema_run_context.specs.Works.{HasRoom};
 ghost use Rattle.schema_node.specs.Premises.{ChildMayRun, EntriesMayRun, EntryMayRun, FinishesAll, KeywordMayRun, NodeMayBeRefused};
 ghost use Rattle.schema_node.specs.Premises.{NodeMayReply, NodeMayRun};
 ghost use Rattle.schema_node.specs.RunAnswers.{AnswerOfNode, ReplyOfChild, ReplyOfEdge, ReplyOfEntries, ReplyOfEntry, ReplyOfForm};
@@ -18,18 +19,20 @@ use schema_reports::{InstanceStep, OutOfMemory};
 use schema_run_context::{ValidationContext, child_edge};
 use schema_run_steps::{
     Engine, EvaluationPlace, GuardedPair, NamedKeyword, Question, accepted, finished, is_settled,
-    joined, one_below, refused, stamped_reply,
+    joined, one_below, open_question, refused, stamped_reply,
 };
 use schema_traits::{Below, Edge, Matcher, Mode, Reply, SchemaNode, Validate};
 
-// Returns the reply of a node at a place: its verdict or its errors, by the mode.
+// Returns the reply of a node at a place: its verdict or its errors, by the mode. The engine has the
+// context's limit on depth.
 pub(crate) fn node_reply<'i, K: Validate, M: Matcher>(
     engine: &Engine<'_, K, M>,
     node: SchemaNode,
     question: &Question<'_, 'i>,
     context: &mut ValidationContext<'i>,
 ) -> Result<Reply<'i>, OutOfMemory>
-    requires { NodeMayReply K.Validate M.Matcher.own engine.now question.now context.old node.0 }
+    requires may_reply { NodeMayReply K.Validate M.Matcher.own engine.now question.now context.old node.0 }
+    requires limit { engine.now.deepest ≡ context.old.work.deepest }
     ensures { AnswerOfNode K.Validate M.Matcher.own engine.now question.now node.0 context.old context.new result }
 {
     match question.mode {
@@ -41,7 +44,8 @@ pub(crate) fn node_reply<'i, K: Validate, M: Matcher>(
     }
 }
 
-// Returns the reply of a node at a place, in a mode for errors. Counts the node.
+// Returns the reply of a node at a place, in a mode for errors. Counts the node, and stops if too
+// many questions are open.
 #[cycle(run)]
 fn run_node<'i, K: Validate, M: Matcher>(
     engine: &Engine<'_, K, M>,
@@ -52,7 +56,7 @@ fn run_node<'i, K: Validate, M: Matcher>(
     requires { NodeMayRun K.Validate M.Matcher.own engine.now question.now context.old node.0 }
     ensures { ReplyOfNode K.Validate M.Matcher.own engine.now question.now node.0 context.old context.new result }
 {
-    context.step()?;
+    open_question(engine, question, context)?;
     run_plan(engine, node, question, context)
 }
 
@@ -64,7 +68,8 @@ fn run_plan<'i, K: Validate, M: Matcher>(
     question: &Question<'_, 'i>,
     context: &mut ValidationContext<'i>,
 ) -> Result<Reply<'i>, OutOfMemory>
-    requires { NodeMayRun K.Validate M.Matcher.own engine.now question.now context.old node.0 }
+    requires may_run { NodeMayRun K.Validate M.Matcher.own engine.now question.now context.old node.0 }
+    requires room { HasRoom engine.now.deepest question.now.depth }
     ensures { ReplyOfPlan K.Validate M.Matcher.own engine.now question.now node.0 context.old context.new result }
 {
     let found = engine.nodes.node(node);
@@ -302,8 +307,10 @@ fn run_edge<'i, K: Validate, M: Matcher>(
 {
     let whole = question.path.across(&edge.path);
     if !edge.guarded {
+        let depth = question.depth_below();
         let asked = Question {
             path: &whole,
+            depth,
             ..*question
         };
         return run_node(engine, edge.node, &asked, context);
@@ -314,9 +321,11 @@ fn run_edge<'i, K: Validate, M: Matcher>(
     }
     pair.enter(context)?;
     let place = pair.numbered_place();
+    let depth = question.depth_below();
     let asked = Question {
         place: &place,
         path: &whole,
+        depth,
         ..*question
     };
     let reply = run_node(engine, edge.node, &asked, context)?;

@@ -8,7 +8,7 @@ ghost use Rattle.schema_node.specs.FirstQuestions.{asking_first, asking_unit};
 ghost use Rattle.schema_node.specs.WholeRuns.{NodeIsEvaluated, NodeIsRun, NodeIsRunFurther, SubjectStandsIn};
 ghost use Rattle.theory_runs.specs.RunStates.{GoesOn, setting_over};
 
-use crate::node::evaluate::evaluate_node;
+use crate::node::evaluate::evaluate_root;
 use crate::node::run::node_reply;
 use schema_node_table::Nodes;
 use schema_reports::{EvaluationNode, Instance, Location, OutOfMemory, Place};
@@ -49,7 +49,8 @@ pub trait RunNodes<K: Validate> {
     ///
     /// # Errors
     ///
-    /// Returns an error if memory or the context's work budget runs out.
+    /// Returns an error if memory or the context's work budget runs out, or if more questions would
+    /// be open at once than that budget says.
     fn run<'i, M: Matcher>(
         &self,
         alloc: Global,
@@ -78,7 +79,8 @@ pub trait RunNodes<K: Validate> {
     ///
     /// # Errors
     ///
-    /// Returns an error if memory or the context's work budget runs out.
+    /// Returns an error if memory or the context's work budget runs out, or if more questions would
+    /// be open at once than that budget says.
     fn run_further<'i, M: Matcher>(
         &self,
         alloc: Global,
@@ -108,7 +110,8 @@ pub trait RunNodes<K: Validate> {
     ///
     /// # Errors
     ///
-    /// Returns an error if memory or the context's work budget runs out.
+    /// Returns an error if memory or the context's work budget runs out, or if more questions would
+    /// be open at once than that budget says.
     fn evaluate_instance<'i, M: Matcher>(
         &self,
         alloc: Global,
@@ -156,12 +159,14 @@ impl<K: Validate> RunNodes<K> for Nodes<K> {
             nodes: self,
             alloc,
             matcher,
+            deepest: context.work().depth_limit(),
         };
         let asked = Question {
             instance: question.instance,
             place: &place,
             path: &path,
             mode: question.mode,
+            depth: 0,
         };
         node_reply(&engine, node, &asked, context)
     }
@@ -184,13 +189,15 @@ impl<K: Validate> RunNodes<K> for Nodes<K> {
             nodes: self,
             alloc,
             matcher,
+            deepest: context.work().depth_limit(),
         };
         let question = Question {
             instance,
             place: &place,
             path: &path,
             mode: Mode::Evaluate,
+            depth: 0,
         };
-        evaluate_node(&engine, node, &question, context)
+        evaluate_root(&engine, node, &question, context)
     }
 }

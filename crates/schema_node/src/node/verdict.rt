@@ -10,6 +10,7 @@
 //! be slower.
 ghost use Rattle.schema_traits.specs.KeywordViews.{below_of};
 ghost use Rattle.schema_traits.specs.EdgeViews.{edge_of};
+ghost use Rattle.schema_run_context.specs.Works.{HasRoom};
 ghost use Rattle.theory_runs.specs.Answered.{a_guarded, a_node, a_plan, a_shared};
 ghost use Rattle.theory_runs.specs.Answered.{the_child, the_entries};
 ghost use Rattle.schema_node.specs.Premises.{EdgeIsAsked, EntryIsAsked, VerdictIsAsked};
@@ -20,10 +21,11 @@ use crate::node::verdict_turns::keyword_verdict;
 use schema_node_table::{Entry, EntryForm, NodeForm};
 use schema_reports::OutOfMemory;
 use schema_run_context::{ValidationContext, child_edge};
-use schema_run_steps::{Engine, GuardedPair, NamedKeyword, Question, one_below};
+use schema_run_steps::{Engine, GuardedPair, NamedKeyword, Question, one_below, open_question};
 use schema_traits::{Below, Edge, Matcher, SchemaNode, Validate};
 
-// Returns the verdict of a node at a place. Counts the node.
+// Returns the verdict of a node at a place. Counts the node, and stops if too many questions are
+// open.
 #[cycle(verdict)]
 pub(crate) fn verdict_node<'i, K: Validate, M: Matcher>(
     engine: &Engine<'_, K, M>,
@@ -34,7 +36,7 @@ pub(crate) fn verdict_node<'i, K: Validate, M: Matcher>(
     requires { VerdictIsAsked K.Validate M.Matcher.own engine.now question.now (a_node node.0) context.old }
     ensures { VerdictIsTold K.Validate M.Matcher.own engine.now question.now (a_node node.0) context.old context.new result }
 {
-    context.step()?;
+    open_question(engine, question, context)?;
     verdict_plan(engine, node, question, context)
 }
 
@@ -46,7 +48,8 @@ fn verdict_plan<'i, K: Validate, M: Matcher>(
     question: &Question<'_, 'i>,
     context: &mut ValidationContext<'i>,
 ) -> Result<bool, OutOfMemory>
-    requires { VerdictIsAsked K.Validate M.Matcher.own engine.now question.now (a_plan node.0) context.old }
+    requires asked { VerdictIsAsked K.Validate M.Matcher.own engine.now question.now (a_plan node.0) context.old }
+    requires room { HasRoom engine.now.deepest question.now.depth }
     ensures { VerdictIsTold K.Validate M.Matcher.own engine.now question.now (a_plan node.0) context.old context.new result }
 {
     match &engine.nodes.node(node).form {
@@ -219,8 +222,10 @@ pub(crate) fn verdict_edge<'i, K: Validate, M: Matcher>(
         return guarded_verdict(engine, edge, question, context);
     }
     let whole = question.path.across(&edge.path);
+    let depth = question.depth_below();
     let asked = Question {
         path: &whole,
+        depth,
         ..*question
     };
     if engine.nodes.is_shared(edge.node) {
@@ -278,9 +283,11 @@ fn guarded_verdict<'i, K: Validate, M: Matcher>(
     pair.enter(context)?;
     let place = pair.numbered_place();
     let whole = question.path.across(&edge.path);
+    let depth = question.depth_below();
     let asked = Question {
         place: &place,
         path: &whole,
+        depth,
         ..*question
     };
     let mark = context.start_ref_visit();

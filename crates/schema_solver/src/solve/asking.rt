@@ -216,12 +216,18 @@ fn solve_there<'i, K: Validate, M: Matcher>(
     match child_edge(children, asked.child) {
         None => Told::settled(true),
         Some(edge) => match asked.below {
-            None => solve_edge(engine, edge, question, context),
+            None => {
+                let depth = question.depth_below();
+                let here = Asked { depth, ..*question };
+                solve_edge(engine, edge, &here, context)
+            }
             Some((inner, step)) => {
                 let lower = question.place.below(step);
+                let depth = question.depth_below();
                 let there = Asked {
                     instance: inner,
                     place: &lower,
+                    depth,
                 };
                 solve_edge(engine, edge, &there, context)
             }

@@ -30,12 +30,18 @@ pub(crate) fn solve_child<'i, K: Validate, M: Matcher>(
     match child_edge(children, child) {
         None => Told::settled(true),
         Some(edge) => match one_below(question.instance, below) {
-            None => solve_edge(engine, edge, question, context),
+            None => {
+                let depth = question.depth_below();
+                let here = Asked { depth, ..*question };
+                solve_edge(engine, edge, &here, context)
+            }
             Some((inner, step)) => {
                 let lower = question.place.below(step);
+                let depth = question.depth_below();
                 let asked = Asked {
                     instance: inner,
                     place: &lower,
+                    depth,
                 };
                 solve_edge(engine, edge, &asked, context)
             }
@@ -44,7 +50,7 @@ pub(crate) fn solve_child<'i, K: Validate, M: Matcher>(
 }
 
 // Returns the verdict of the node that an edge leads to. If the edge is guarded, or its number is
-// not inlined, the pair is looked up first.
+// not inlined, the pair is looked up first. It stops if too many evaluations are under way.
 #[cycle(verdict)]
 #[inline(always)]
 pub(crate) fn solve_edge<'i, K: Validate, M: Matcher>(
@@ -58,6 +64,9 @@ pub(crate) fn solve_edge<'i, K: Validate, M: Matcher>(
 {
     if edge.guarded || !engine.followed.is_followed(edge.node) {
         return solve_pair(engine, edge.node, question, context);
+    }
+    if !engine.has_room(question.depth) {
+        return Told::stopped(Stopped::Depth);
     }
     solve_node(engine, edge.node, question, context)
 }
@@ -104,7 +113,7 @@ fn solve_pair<'i, K: Validate, M: Matcher>(
 }
 
 // Returns the answer for a pair about which nothing is known. The pair is in progress while its
-// node is evaluated; if no more pairs may begin, it stops.
+// node is evaluated; if no more pairs may begin, or too many evaluations are under way, it stops.
 //
 // An "invalid" is remembered, and what was assumed since is dropped. A "valid" is remembered, with
 // all that was assumed since, if no other pair is in progress at the place. Otherwise it alone is
@@ -124,6 +133,10 @@ fn begin_pair<'i, K: Validate, M: Matcher>(
     if let Err(stopped) = may_begin(engine, context) {
         return Told::stopped(stopped);
     }
+    let depth = question.depth_below();
+    if !engine.has_room(depth) {
+        return Told::stopped(Stopped::Depth);
+    }
     let mark = match pair.enter(context) {
         Ok(mark) => mark,
         Err(_) => return Told::stopped(Stopped::OutOfMemory),
@@ -132,6 +145,7 @@ fn begin_pair<'i, K: Validate, M: Matcher>(
     let asked = Asked {
         instance: question.instance,
         place: &place,
+        depth,
     };
     let said = match solve_node_apart(engine, node, &asked, context).result() {
         Ok(said) => said,

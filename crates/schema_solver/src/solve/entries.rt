@@ -1,6 +1,7 @@
 //! The verdict of a node and of its entries, by a solver.
 ghost use Rattle.std.specs.Prelude.{IfSome};
 ghost use Rattle.schema_reports.specs.InstanceViews.{subject_of};
+ghost use Rattle.schema_run_context.specs.Works.{HasRoom};
 ghost use Rattle.schema_solver.specs.Solved.{a_node, the_edge, the_entries, the_entry};
 ghost use Rattle.schema_solver.specs.Calls.{Answers, CanAsk};
 ghost use Rattle.schema_solver.specs.ToldAtOnce.{TellsAtOnce};
@@ -23,7 +24,8 @@ pub(crate) fn solve_node<'i, K: Validate, M: Matcher>(
     question: &Asked<'_, 'i>,
     context: &mut SolverContext<'i>,
 ) -> Told
-    requires { CanAsk K.Validate M.Matcher.own engine.now question.now (a_node node.0) context.old }
+    requires can_ask { CanAsk K.Validate M.Matcher.own engine.now question.now (a_node node.0) context.old }
+    requires room { HasRoom engine.now.deepest question.now.depth }
     ensures { Answers K.Validate M.Matcher.own engine.now question.now (a_node node.0) context.old context.new result }
 {
     match &engine.nodes.node(node).form {
@@ -120,7 +122,8 @@ fn solve_left<'i, K: Validate, M: Matcher>(
 }
 
 // Returns the verdict of an entry's keyword, or of the node that its reference leads to. A keyword
-// that decides without questions takes no run.
+// that decides without questions takes no run. The question of a reference counts, since other
+// entries may come after it.
 #[cycle(verdict)]
 fn solve_form<'i, K: Validate, M: Matcher>(
     engine: &SolverEngine<'_, K, M>,
@@ -139,7 +142,11 @@ fn solve_form<'i, K: Validate, M: Matcher>(
             }
             solve_keyword(engine, node, entry, question, context)
         }
-        EntryForm::Reference(edge) => solve_edge(engine, edge, question, context),
+        EntryForm::Reference(edge) => {
+            let depth = question.depth_below();
+            let here = Asked { depth, ..*question };
+            solve_edge(engine, edge, &here, context)
+        }
     }
 }
 
@@ -199,7 +206,8 @@ pub(crate) fn solve_node_apart<'i, K: Validate, M: Matcher>(
     question: &Asked<'_, 'i>,
     context: &mut SolverContext<'i>,
 ) -> Told
-    requires { CanAsk K.Validate M.Matcher.own engine.now question.now (a_node node.0) context.old }
+    requires can_ask { CanAsk K.Validate M.Matcher.own engine.now question.now (a_node node.0) context.old }
+    requires room { HasRoom engine.now.deepest question.now.depth }
     ensures { Answers K.Validate M.Matcher.own engine.now question.now (a_node node.0) context.old context.new result }
 {
     solve_node(engine, node, question, context)

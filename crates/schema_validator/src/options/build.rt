@@ -106,6 +106,7 @@ impl ValidationOptions {
         let limits = CallLimits {
             runs: self.run_limit,
             work: self.work_limit,
+            depth: self.depth_limit,
         };
         let finder = Solver::of(alloc, &nodes)?;
         let validator = of_compiled_within(

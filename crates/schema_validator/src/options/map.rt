@@ -180,6 +180,7 @@ impl<'p, S: Resolver, T, M: Matcher> MapBuilding<'p, S, T, M> {
         let limits = CallLimits {
             runs: options.run_limit,
             work: options.work_limit,
+            depth: options.depth_limit,
         };
         let validator = of_compiled_within(
             self.table,

@@ -1,5 +1,5 @@
-//! The calls of a validator, within its limit on steps.
-ghost use Rattle.std.specs.Prelude.{◌≡◌, IfOk, IfSome, Some, true, OnSome};
+//! The calls of a validator, within its limits.
+ghost use Rattle.std.specs.Prelude.{◌≡◌, IfOk, IfSome, None, is_some, true};
 ghost use Rattle.serde_json.specs.View.{view};
 ghost use Rattle.schema_compiled.specs.Asked.{DecidesFromSomeDepth, ErrorsFromSomeDepth, FirstFromSomeDepth};
 ghost use Rattle.schema_compiled.specs.Asked.{DecidesInEverySense, ErrorsInEverySense, FirstInEverySense};
@@ -7,14 +7,17 @@ ghost use Rattle.schema_compiled.specs.Asked.{ErrorsPointAsNodes, FirstPointsAsN
 ghost use Rattle.schema_compiled.specs.Asked.{EvaluatesFromSomeDepth, EvaluatesInEverySense};
 ghost use Rattle.schema_compiled.specs.Asked.{UnitsFromSomeDepth, UnitsInEverySense};
 ghost use Rattle.schema_validator.specs.CallWords.{AreSoOrGiveLimit, AreSoOrTell, EachBorrows, FirstBorrows, FirstIsSo, FirstIsSoOrTells, IsSoOrNo};
+ghost use Rattle.schema_run_context.specs.Works.{allowed, down_to};
+ghost use Rattle.schema_validator.specs.Budgets.{IsNamedBy};
 ghost use Rattle.schema_validator.specs.Greatest.{DecidesAccepted, ErrorsAccepted, EvaluatesAccepted, FirstAccepted};
 ghost use Rattle.schema_compiled.specs.Solved.{IsDecidedWithin};
+ghost use Rattle.schema_compiled.specs.Stopped.{IsOneOf};
 ghost use Rattle.schema_compiled.specs.Taken.{MakesRunsWithin};
 ghost use Rattle.theory_definitions.specs.Cover.{evaluate, is_valid, iter_errors, validate};
 
 use crate::call_error::CallError;
 use crate::validator::Validator;
-use schema_compiled::{limit_failure, limit_failure_alone};
+use schema_compiled::{CallLimit, limit_failure, limit_failure_alone};
 use schema_output::{Evaluation, unit_of_errors};
 use schema_reports::{ErrorIterator, OutOfMemory, ValidationError};
 use schema_run_context::Work;
@@ -23,14 +26,29 @@ use serde_json::Value;
 use std::alloc::{AllocError, Global};
 
 impl<K: Validate, M: Matcher> Validator<K, M> {
-    // Returns the validator's limit on steps, if a call failed because of it.
-    fn limit_named(&self, failure: CallError) -> Option<u64>
-        ensures limit { IfSome result (λ limit. self.now.work ≡ Some limit) }
-        ensures named { OnSome result (failure ≡ CallError.WorkLimit) }
-        ensures other { failure ≡ CallError.WorkLimit → result ≡ self.now.work }
+    // Returns the budget of a call.
+    fn budget(&self) -> Work
+        ensures budget { result ≡ down_to self.now.depth (allowed self.now.work) }
+    {
+        Work::within(self.work_limit()).with_depth(self.depth_limit())
+    }
+
+    // Returns the validator's limit because of which a call failed, if it did because of one.
+    fn limit_named(&self, failure: CallError) -> Option<CallLimit>
+        ensures limit { IfSome result (IsOneOf self.now.work self.now.depth) }
+        ensures named { IfSome result (IsNamedBy failure) }
+        ensures steps { failure ≡ CallError.WorkLimit → is_some result ≡ is_some self.now.work }
+        ensures depth { failure ≡ CallError.DepthLimit → is_some result ≡ is_some self.now.depth }
     {
         match failure {
-            CallError::WorkLimit => self.work_limit(),
+            CallError::WorkLimit => match self.work_limit() {
+                Some(limit) => Some(CallLimit::Steps(limit)),
+                None => None,
+            },
+            CallError::DepthLimit => match self.depth_limit() {
+                Some(limit) => Some(CallLimit::Depth(limit)),
+                None => None,
+            },
             CallError::OutOfMemory => None,
         }
     }
@@ -42,10 +60,10 @@ impl<K: Validate, M: Matcher> Validator<K, M> {
     /// is monotone and the runs are within the limit, returns `true` exactly if the greatest
     /// solution of the nodes accepts, even if chains of references return.
     ///
-    /// With a limit on steps (`with_work_limit`), returns `false` if the call needs one more. The
-    /// limit is enough if the matcher says that it finishes every match, each keyword says that it
-    /// is monotone, and there is a solver for which that many pairs are enough (`solve_within`).
-    /// Then a `false` is a verdict.
+    /// With a limit on steps (`with_work_limit`) or on depth (`with_depth_limit`), returns `false` if
+    /// the call needs more. Without one on depth, the limit on steps is enough if the matcher says
+    /// that it finishes every match, each keyword says that it is monotone, and there is a solver for
+    /// which that many pairs are enough (`solve_within`). Then a `false` is a verdict.
     ///
     /// # Errors
     ///
@@ -55,10 +73,10 @@ impl<K: Validate, M: Matcher> Validator<K, M> {
         ensures senses { IfOk result (IsSoOrNo K.Validate M.Matcher.own self.now instance.now DecidesInEverySense) }
         ensures greatest { IfOk result (IsSoOrNo K.Validate M.Matcher.own self.now instance.now DecidesAccepted) }
         ensures works { IfOk result (IsSoOrNo K.Validate M.Matcher.own self.now instance.now (MakesRunsWithin is_valid)) }
-        ensures decides { IfSome self.now.work (IsDecidedWithin K.Validate M.Matcher.own self.now instance.now)
+        ensures decides { self.now.depth ≡ None → IfSome self.now.work (IsDecidedWithin K.Validate M.Matcher.own self.now instance.now)
             → IfOk result (DecidesFromSomeDepth K.Validate M.Matcher.own self.now (view instance.now)) }
     {
-        let mut work = Work::within(self.work_limit());
+        let mut work = self.budget();
         match self.is_valid_within(alloc, instance, &mut work) {
             Ok(valid) => Ok(valid),
             Err(failure) => match self.limit_named(failure) {
@@ -78,8 +96,8 @@ impl<K: Validate, M: Matcher> Validator<K, M> {
     /// greatest solution of the nodes accepts.
     ///
     /// If the matcher says that it finishes every match, the call looks for the verdict first, and
-    /// for the error only if the instance is invalid. With a limit on steps (`with_work_limit`),
-    /// the error reports the limit if the call needs one more.
+    /// for the error only if the instance is invalid. With a limit on steps (`with_work_limit`) or on
+    /// depth (`with_depth_limit`), the error reports the limit if the call needs more.
     ///
     /// # Errors
     ///
@@ -95,11 +113,11 @@ impl<K: Validate, M: Matcher> Validator<K, M> {
         ensures points { IfOk result (FirstIsSoOrTells K.Validate M.Matcher.own self.now instance.now FirstPointsAsNodes) }
         ensures borrows { IfOk result (FirstBorrows instance.now) }
         ensures works { IfOk result (FirstIsSoOrTells K.Validate M.Matcher.own self.now instance.now (MakesRunsWithin validate)) }
-        ensures decides { IfSome self.now.work (IsDecidedWithin K.Validate M.Matcher.own self.now instance.now)
+        ensures decides { self.now.depth ≡ None → IfSome self.now.work (IsDecidedWithin K.Validate M.Matcher.own self.now instance.now)
             → DecidesFromSomeDepth K.Validate M.Matcher.own self.now (view instance.now) true
             → IfOk result (FirstIsSo K.Validate M.Matcher.own self.now instance.now FirstFromSomeDepth) }
     {
-        let mut work = Work::within(self.work_limit());
+        let mut work = self.budget();
         match self.validate_within(alloc, instance, &mut work) {
             Ok(refusal) => Ok(refusal),
             Err(failure) => match self.limit_named(failure) {
@@ -119,8 +137,8 @@ impl<K: Validate, M: Matcher> Validator<K, M> {
     /// error exactly if the greatest solution of the nodes accepts.
     ///
     /// If the matcher says that it finishes every match, the call looks for the verdict first, and
-    /// for errors only if the instance is invalid. With a limit on steps (`with_work_limit`), the
-    /// one error reports the limit if the call needs one more.
+    /// for errors only if the instance is invalid. With a limit on steps (`with_work_limit`) or on
+    /// depth (`with_depth_limit`), the one error reports the limit if the call needs more.
     ///
     /// # Errors
     ///
@@ -136,11 +154,11 @@ impl<K: Validate, M: Matcher> Validator<K, M> {
         ensures points { IfOk result (AreSoOrTell K.Validate M.Matcher.own self.now instance.now ErrorsPointAsNodes) }
         ensures borrows { IfOk result (EachBorrows instance.now) }
         ensures works { IfOk result (AreSoOrTell K.Validate M.Matcher.own self.now instance.now (MakesRunsWithin iter_errors)) }
-        ensures decides { IfSome self.now.work (IsDecidedWithin K.Validate M.Matcher.own self.now instance.now)
+        ensures decides { self.now.depth ≡ None → IfSome self.now.work (IsDecidedWithin K.Validate M.Matcher.own self.now instance.now)
             → DecidesFromSomeDepth K.Validate M.Matcher.own self.now (view instance.now) true
             → IfOk result (ErrorsFromSomeDepth K.Validate M.Matcher.own self.now (view instance.now)) }
     {
-        let mut work = Work::within(self.work_limit());
+        let mut work = self.budget();
         match self.iter_errors_within(alloc, instance, &mut work) {
             Ok(errors) => Ok(errors),
             Err(failure) => match self.limit_named(failure) {
@@ -163,8 +181,8 @@ impl<K: Validate, M: Matcher> Validator<K, M> {
     /// instance is valid under every outcome; if each keyword is monotone, exactly if the greatest
     /// solution of the nodes accepts.
     ///
-    /// With a limit on steps (`with_work_limit`), the evaluation is made of the one error that
-    /// reports the limit if the call needs one more.
+    /// With a limit on steps (`with_work_limit`) or on depth (`with_depth_limit`), the evaluation is
+    /// made of the one error that reports the limit if the call needs more.
     ///
     /// # Errors
     ///
@@ -177,7 +195,7 @@ impl<K: Validate, M: Matcher> Validator<K, M> {
         ensures plain { IfOk result (AreSoOrGiveLimit K.Validate M.Matcher.own self.now instance.now UnitsInEverySense) }
         ensures works { IfOk result (AreSoOrGiveLimit K.Validate M.Matcher.own self.now instance.now (MakesRunsWithin evaluate)) }
     {
-        let mut work = Work::within(self.work_limit());
+        let mut work = self.budget();
         match self.evaluate_within(alloc, instance, &mut work) {
             Ok(evaluation) => Ok(evaluation),
             Err(failure) => match self.limit_named(failure) {

@@ -27,6 +27,7 @@ impl<K: CloneKeyword, M: Matcher> Validator<K, M> {
         ensures solver { IfOk result (λ copy. copy.followed ≡ self.now.followed) }
         ensures runs { IfOk result (λ copy. copy.runs ≡ self.now.runs) }
         ensures work { IfOk result (λ copy. copy.work ≡ self.now.work) }
+        ensures depth { IfOk result (λ copy. copy.depth ≡ self.now.depth) }
         ensures says { IfOk result (λ copy. SaySame K.Validate M.Matcher.own copy self.now) }
         ensures answers { IfOk result (λ copy. AnswerSame K.Validate M.Matcher.own copy self.now) }
     {

@@ -27,18 +27,18 @@ returns-clause-answer g c =
     let keeps : (texts : Bool) → EachKeeps (k.words texts) = λ texts s. (k.absorbed s, absorbing texts s) in
     record {
       answer = plainly_from h.resolver h.table h.matcher k.words default_options schema k.shape k.is_whole g.M.Matcher.matching validator instance
-          (λ texts v. EvaluationAnswered v default_runs texts answer) built.means (rw program.runs_are at (rw program.work_is at said.senses));
-      guarded = (validator, program, rw program.runs_are at (rw program.work_is at said.depth));
+          (λ texts v. EvaluationAnswered v default_runs texts answer) built.means (rw program.runs_are at (rw (program.work_is, program.depth_is) at said.senses));
+      guarded = (validator, program, rw program.runs_are at (rw (program.work_is, program.depth_is) at said.depth));
       greatest = says_greatest h keeps (g.met.S.Resolver.same c.args.resolver.now) default_options schema validator program built.means instance
-          evaluate (λ texts. verdict_in texts answer) (rw program.work_is at said.greatest);
+          evaluate (λ texts. verdict_in texts answer) (rw (program.work_is, program.depth_is) at said.greatest);
       plain_units = plainly_with_units h.resolver h.table h.matcher k.words default_options schema k.shape k.is_whole g.M.Matcher.matching validator instance
-          (λ texts v units. UnitsAnswered v texts units answer) built.means built.units (rw program.work_is at said.plain);
-      units = (validator, program, rw program.work_is at said.units);
+          (λ texts v units. UnitsAnswered v texts units answer) built.means built.units (rw (program.work_is, program.depth_is) at said.plain);
+      units = (validator, program, rw (program.work_is, program.depth_is) at said.units);
       leads = (
         validator,
         program,
         rw program.runs_are at (evaluation_points h.resolver h.table h.matcher k.words default_options schema k.shape g.M.Matcher.matching validator k.is_whole built.means built.points
-            instance k.absorbed absorbing g.met.K.Validate.hands_units_on (g.met.T.KeywordTable.right c.args.table.now) program answer (rw program.work_is at said.depth) (rw program.work_is at said.units)),
+            instance k.absorbed absorbing g.met.K.Validate.hands_units_on (g.met.T.KeywordTable.right c.args.table.now) program answer (rw (program.work_is, program.depth_is) at said.depth) (rw (program.work_is, program.depth_is) at said.units)),
       );
       allowed = record { builds = built.builds; passed = built.passed };
     }

@@ -24,10 +24,10 @@ returns-clause-answer g c =
     let keeps : (texts : Bool) → EachKeeps (k.words texts) = λ texts s. (k.absorbed s, keeps_of_turns (k.words texts) s (k.absorbed s) (k.remaining s) (k.can_be texts s) (k.ends texts s) (k.fits texts s) (g.met.K.Validate.turn_laws texts s) (g.met.K.Validate.function_laws texts s)) in
     record {
       answer = plainly_from h.resolver h.table h.matcher k.words default_options schema k.shape k.is_whole g.M.Matcher.matching validator instance
-          (λ texts v. VerdictSays v default_runs is_valid answer) built.means (rw program.runs_are at (rw program.work_is at said.senses));
-      guarded = (validator, program, rw program.runs_are at (rw program.work_is at said.depth));
+          (λ texts v. VerdictSays v default_runs is_valid answer) built.means (rw program.runs_are at (rw (program.work_is, program.depth_is) at said.senses));
+      guarded = (validator, program, rw program.runs_are at (rw (program.work_is, program.depth_is) at said.depth));
       greatest = says_greatest h keeps (g.met.S.Resolver.same c.args.resolver.now) default_options schema validator program built.means instance
-          is_valid (λ texts. answer) (rw program.work_is at said.greatest);
+          is_valid (λ texts. answer) (rw (program.work_is, program.depth_is) at said.greatest);
       allowed = record { builds = built.builds; passed = built.passed };
     }
 

@@ -31,6 +31,7 @@ use Rattle.schema_run_steps.specs.NodeRuns.{EdgeReplies, child_says, edge_needs,
 use Rattle.schema_run_context.specs.Progress.{Context, NoDeeper, busy_at}
 use Rattle.theory_runs.specs.RightVerdicts.{LaysOut}
 use Rattle.schema_run_steps.specs.Askings.{asking, Asking}
+use Rattle.schema_run_steps.specs.Depths.{held}
 use Rattle.theory_runs.specs.RunStates.{Keeps, MeetsNode, MeetsParts, NodeSays, RemembersRightly, StaysRight, setting}
 use Rattle.schema_traits.specs.declared.keyword.Reply.TheVariants as told
 use Rattle.theory_runs.proofs.GoesOn.{asked_across, computed_meets, computed_says, computed_stays, right_matched, right_same}
@@ -70,7 +71,7 @@ run::run_child-run_edge-requires g t c =
     let e = edge_of c.in-Some.edge.now in
     let k = c.requires.children c.args.child e (sym c.in-Some.ensures.edge) in
     let l = falls_here g.K.Validate.words g.K.Validate.is_whole ns (length c.args.engine.now.nodes.now) (settling (g.M.Matcher.matching c.args.engine.now.matcher.now) c.args.context.now.remembered.assumptions) c.requires.may.ranked c.args.node.0 (subject_of c.args.question.now.instance) (busy_at (steps_to c.args.question.now.place.now) c.args.context.now.in_progress) e c.requires.may.known k in
-    λ κs h. (lower_edge _ _ _ t 1 refl l c.decreases, (h.0, (h.1.0, (h.1.1.0, (h.1.1.1, record { may = record { known = (c.requires.may.ranked c.args.node.0 c.requires.may.known e k).0; ranked = c.requires.may.ranked; above = c.requires.may.above; wanted = c.requires.may.wanted; stands = c.requires.may.stands; goes_on = c.requires.may.goes_on }; carries = c.requires.carries; more = c.requires.more })))))
+    λ κs h. (lower_edge _ _ _ t 1 refl l c.decreases, (h.0, (h.1.0, (h.1.1.0, (h.1.1.1, record { may = record { known = (c.requires.may.ranked c.args.node.0 c.requires.may.known e k).0; ranked = c.requires.may.ranked; above = c.requires.may.above; wanted = c.requires.may.wanted; stands = c.requires.may.stands; goes_on = c.requires.may.goes_on }; deep = c.requires.deep; carries = c.requires.carries; more = c.requires.more })))))
 
 pub run::run_child-run_refused-requires : goal.run::run_child-run_refused-requires
 run::run_child-run_refused-requires g t c =
@@ -83,7 +84,7 @@ run::run_child-run_refused-requires g t c =
     let lower = steps_to c.below-lower.result in
     let is = sym c.in-Some.ensures.edge in
     let below = c.in-Some-one_below.ensures.below in
-    λ κs h. (lower_across _ _ _ t 0 refl (needs_below set q c.args.node.0 _ k e step inner lower c.args.context.now c.requires.may c.requires.children is below.1 c.below-lower.ensures.below) c.decreases, (h.0, (h.1.0, (h.1.1.0, (h.1.1.1, record { may = may_below set q c.args.node.0 _ k e step inner lower c.args.context.now c.requires.may c.requires.children is below.1 c.below-lower.ensures.below; carries = c.below-lower.ensures.carries (places_in c.args.context.now) c.requires.carries; more = c.requires.more; finishes = c.is_asked_first.ensures.finishes c.if-is_asked_first.true })))))
+    λ κs h. (lower_across _ _ _ t 0 refl (needs_below set q c.args.node.0 _ k e step inner lower c.args.context.now c.requires.may c.requires.children is below.1 c.below-lower.ensures.below) c.decreases, (h.0, (h.1.0, (h.1.1.0, (h.1.1.1, record { may = may_below set q c.args.node.0 _ k e step inner lower c.args.context.now c.requires.may c.requires.children is below.1 c.below-lower.ensures.below; deep = c.requires.deep; carries = c.below-lower.ensures.carries (places_in c.args.context.now) c.requires.carries; more = c.requires.more; finishes = c.is_asked_first.ensures.finishes c.if-is_asked_first.true })))))
 
 pub run::run_child-run_edge-requires-in-Some-one_below : goal.run::run_child-run_edge-requires-in-Some-one_below
 run::run_child-run_edge-requires-in-Some-one_below g t c =
@@ -96,7 +97,7 @@ run::run_child-run_edge-requires-in-Some-one_below g t c =
     let lower = steps_to c.below-lower.result in
     let is = sym c.in-Some.ensures.edge in
     let below = c.in-Some-one_below.ensures.below in
-    λ κs h. (lower_edge _ _ _ t 1 refl (needs_below set q c.args.node.0 _ k e step inner lower c.args.context.now c.requires.may c.requires.children is below.1 c.below-lower.ensures.below) c.decreases, (h.0, (h.1.0, (h.1.1.0, (h.1.1.1, record { may = may_below set q c.args.node.0 _ k e step inner lower c.args.context.now c.requires.may c.requires.children is below.1 c.below-lower.ensures.below; carries = c.below-lower.ensures.carries (places_in c.args.context.now) c.requires.carries; more = c.requires.more })))))
+    λ κs h. (lower_edge _ _ _ t 1 refl (needs_below set q c.args.node.0 _ k e step inner lower c.args.context.now c.requires.may c.requires.children is below.1 c.below-lower.ensures.below) c.decreases, (h.0, (h.1.0, (h.1.1.0, (h.1.1.1, record { may = may_below set q c.args.node.0 _ k e step inner lower c.args.context.now c.requires.may c.requires.children is below.1 c.below-lower.ensures.below; deep = c.requires.deep; carries = c.below-lower.ensures.carries (places_in c.args.context.now) c.requires.carries; more = c.requires.more })))))
 
 pub run::run_child-returns-in-None-one_below : goal.run::run_child-returns-in-None-one_below
 run::run_child-returns-in-None-one_below g t c = record {
@@ -156,7 +157,7 @@ run::run_refused-run_edge-requires g t c =
     let valid = c.in_ok-valid.ensures in
     let l = ap (λ es. edge_needs (numbered g.K.Validate.shape c.args.engine.now.nodes.now) (length c.args.engine.now.nodes.now) (edge_of c.args.edge.now) (subject_of c.args.question.now.instance) (busy_at (steps_to c.args.question.now.place.now) es)) valid.keeps.in_progress in
     let may = may_on set (asking c.args.question.now) c.args.context.now c.verdict_edge.new.context (edge_of c.args.edge.now).node valid.keeps valid.stays c.requires.may in
-    λ κs h. (lower_edge _ _ _ t 0 l (no_deeper _) c.decreases, (h.0, (h.1.0, (h.1.1.0, (h.1.1.1, record { may = may; carries = carries_on c.args.context.now.root _ c.args.question.now.place.now valid.keeps.root c.requires.carries; more = c.requires.more })))))
+    λ κs h. (lower_edge _ _ _ t 0 l (no_deeper _) c.decreases, (h.0, (h.1.0, (h.1.1.0, (h.1.1.1, record { may = may; deep = c.requires.deep; carries = carries_on c.args.context.now.root _ c.args.question.now.place.now valid.keeps.root c.requires.carries; more = c.requires.more })))))
 
 pub run::run_refused-returns-then-valid : goal.run::run_refused-returns-then-valid
 run::run_refused-returns-then-valid g t c =
@@ -193,7 +194,7 @@ run::run_form-run_edge-requires g t c =
     let e = edge_of c.in-Reference.edge in
     let k = reference_edge ns c.args.node.0 e (rw c.in-Reference.is at c.requires.form) in
     let l = falls_here g.K.Validate.words g.K.Validate.is_whole ns (length c.args.engine.now.nodes.now) (settling (g.M.Matcher.matching c.args.engine.now.matcher.now) c.args.context.now.remembered.assumptions) c.requires.may.ranked c.args.node.0 (subject_of c.args.question.now.instance) (busy_at (steps_to c.args.question.now.place.now) c.args.context.now.in_progress) e c.requires.may.known k in
-    λ κs h. (lower_edge _ _ _ t 6 refl l c.decreases, (h.0, (h.1.0, (h.1.1.0, (h.1.1.1, record { may = record { known = (c.requires.may.ranked c.args.node.0 c.requires.may.known e k).0; ranked = c.requires.may.ranked; above = c.requires.may.above; wanted = c.requires.may.wanted; stands = c.requires.may.stands; goes_on = c.requires.may.goes_on }; carries = c.requires.carries; more = c.requires.more })))))
+    λ κs h. (lower_edge _ _ _ t 6 refl l c.decreases, (h.0, (h.1.0, (h.1.1.0, (h.1.1.1, record { may = record { known = (c.requires.may.ranked c.args.node.0 c.requires.may.known e k).0; ranked = c.requires.may.ranked; above = c.requires.may.above; wanted = c.requires.may.wanted; stands = c.requires.may.stands; goes_on = c.requires.may.goes_on }; deep = c.requires.deep ∙ ap held (sym c.under_reference-path.ensures.edges); carries = c.requires.carries; more = c.requires.more })))))
 
 pub run::run_form-returns-in-Keyword : goal.run::run_form-returns-in-Keyword
 run::run_form-returns-in-Keyword g t c = record {
@@ -236,18 +237,18 @@ pub run::run_node-run_plan-requires : goal.run::run_node-run_plan-requires
 run::run_node-run_plan-requires g t c =
     let set = setting g.K.Validate.words g.K.Validate.is_whole g.K.Validate.shape g.M.Matcher.matching c.args.engine.now in
     let ns = numbered g.K.Validate.shape c.args.engine.now.nodes.now in
-    let l = ap (λ (z : Context). left ns (length c.args.engine.now.nodes.now) c.args.node.0 (subject_of c.args.question.now.instance) (busy_at (steps_to c.args.question.now.place.now) z.in_progress)) c.step.ensures.frame in
-    λ κs h. (lower_same _ _ t 10 0 l c.decreases, (h.0, (h.1.0, (h.1.1.0, (h.1.1.1, record { may = may_run set c.args.question.now c.args.node.0 c.args.context.now c.step.new.self c.step.ensures.frame c.requires.may; carries = carried set c.args.question.now c.args.node.0 c.args.context.now c.step.new.self c.step.ensures.frame c.requires.carries; more = c.requires.more })))))
+    let l = ap (λ (z : Context). left ns (length c.args.engine.now.nodes.now) c.args.node.0 (subject_of c.args.question.now.instance) (busy_at (steps_to c.args.question.now.place.now) z.in_progress)) c.open_question.ensures.frame in
+    λ κs h. (lower_same _ _ t 10 0 l c.decreases, (h.0, (h.1.0, (h.1.1.0, (h.1.1.1, (record { may = may_run set c.args.question.now c.args.node.0 c.args.context.now c.open_question.new.context c.open_question.ensures.frame c.requires.may; deep = c.requires.deep; carries = carried set c.args.question.now c.args.node.0 c.args.context.now c.open_question.new.context c.open_question.ensures.frame c.requires.carries; more = c.requires.more }, c.in_ok-open_question.ensures.room))))))
 
 pub run::run_node-returns : goal.run::run_node-returns
 run::run_node-returns g t c =
     let set = setting g.K.Validate.words g.K.Validate.is_whole g.K.Validate.shape g.M.Matcher.matching c.args.engine.now in
-    replied set c.args.question.now c.args.node.0 c.args.context.now c.step.new.self c.step.ensures.frame c.in_ok-step.ensures.asks c.run_plan.new.context c.run_plan.result c.run_plan.ensures
+    replied set c.args.question.now c.args.node.0 c.args.context.now c.open_question.new.context c.open_question.ensures.frame c.in_ok-open_question.ensures.asks c.run_plan.new.context c.run_plan.result c.run_plan.ensures
 
 pub run::run_plan-run_entries-requires : goal.run::run_plan-run_entries-requires
 run::run_plan-run_entries-requires g t c =
     let plan = plan_is g.K.Validate.shape c.args.engine.now.nodes.now c.args.node.0 (node_of c.node-found.result.now) _ c.node-found.ensures.found (ap (option_map plan_of) c.in-Some.is ∙ ap (λ f. Some (plan_of f)) c.in-Keywords.is) in
-    λ κs h. (lower_same _ _ t 9 0 refl c.decreases, (h.0, (h.1.0, (h.1.1.0, (h.1.1.1, record { may = c.requires.may; carries = c.requires.carries; more = c.requires.more; parts = rw c.as_slice.ensures.value (_, plan, λ y k. k) })))))
+    λ κs h. (lower_same _ _ t 9 0 refl c.decreases, (h.0, (h.1.0, (h.1.1.0, (h.1.1.1, record { may = c.requires.may_run.may; deep = c.requires.may_run.deep; carries = c.requires.may_run.carries; more = c.requires.may_run.more; parts = rw c.as_slice.ensures.value (_, plan, λ y k. k) })))))
 
 pub run::run_plan-returns-in-Never : goal.run::run_plan-returns-in-Never
 run::run_plan-returns-in-Never g t c = record {
@@ -317,7 +318,7 @@ run::run_entries-run_entry-requires g t c =
     let kept = c.loop-entry.invariant.kept in
     let l = ap (λ es. left ns (length c.args.engine.now.nodes.now) c.args.node.0 (subject_of c.args.question.now.instance) (busy_at p es)) kept in
     let here = part_at entry_of (shaped_part g.K.Validate.shape) c.args.entries.now c.loop-entry.entry-index c.entry-item.result c.loop-entry-test.true c.entry-item.is in
-    λ κs h. (lower_same _ _ t 8 0 l c.decreases, (h.0, (h.1.0, (h.1.1.0, (h.1.1.1, record { may = record { known = c.requires.may.known; ranked = c.requires.may.ranked; above = subst (NoDeeper p) (sym kept) c.requires.may.above; wanted = c.requires.may.wanted; stands = stands_on c.args.context.now.root _ (asking c.args.question.now) c.loop-entry.invariant.root c.requires.may.stands; goes_on = (c.requires.may.goes_on.0, c.requires.may.goes_on.1, c.loop-entry.invariant.stays c.requires.may.goes_on.0 c.requires.may.goes_on.1 c.requires.may.goes_on.2) }; carries = carries_on c.args.context.now.root _ c.args.question.now.place.now c.loop-entry.invariant.root c.requires.carries; more = c.requires.more; form = (c.requires.parts.0, c.requires.parts.1, shaped_part g.K.Validate.shape (entry_of c.entry-item.result), c.requires.parts.2 _ here, refl) })))))
+    λ κs h. (lower_same _ _ t 8 0 l c.decreases, (h.0, (h.1.0, (h.1.1.0, (h.1.1.1, record { may = record { known = c.requires.may.known; ranked = c.requires.may.ranked; above = subst (NoDeeper p) (sym kept) c.requires.may.above; wanted = c.requires.may.wanted; stands = stands_on c.args.context.now.root _ (asking c.args.question.now) c.loop-entry.invariant.root c.requires.may.stands; goes_on = (c.requires.may.goes_on.0, c.requires.may.goes_on.1, c.loop-entry.invariant.stays c.requires.may.goes_on.0 c.requires.may.goes_on.1 c.requires.may.goes_on.2) }; deep = c.requires.deep; carries = carries_on c.args.context.now.root _ c.args.question.now.place.now c.loop-entry.invariant.root c.requires.carries; more = c.requires.more; form = (c.requires.parts.0, c.requires.parts.1, shaped_part g.K.Validate.shape (entry_of c.entry-item.result), c.requires.parts.2 _ here, refl) })))))
 
 pub run::run_entries-loop-entry-preserved : goal.run::run_entries-loop-entry-preserved
 run::run_entries-loop-entry-preserved g t c = record {
@@ -395,7 +396,7 @@ run::run_entry-run_form-requires g t c =
     let keeps = c.in_ok-valid.ensures.keeps in
     let kept = keeps.in_progress in
     let l = ap (λ es. left ns (length c.args.engine.now.nodes.now) c.args.node.0 (subject_of c.args.question.now.instance) (busy_at p es)) kept in
-    λ κs h. (lower_same _ _ t 7 0 l c.decreases, (h.0, (h.1.0, (h.1.1.0, (h.1.1.1, record { may = record { known = c.requires.may.known; ranked = c.requires.may.ranked; above = subst (NoDeeper p) (sym kept) c.requires.may.above; wanted = c.requires.may.wanted; stands = stands_on c.args.context.now.root _ (asking c.args.question.now) keeps.root c.requires.may.stands; goes_on = (c.requires.may.goes_on.0, c.requires.may.goes_on.1, c.in_ok-valid.ensures.stays c.requires.may.goes_on.0 c.requires.may.goes_on.1 c.requires.may.goes_on.2) }; carries = carries_on c.args.context.now.root _ c.args.question.now.place.now keeps.root c.requires.carries; more = c.requires.more; form = c.requires.form })))))
+    λ κs h. (lower_same _ _ t 7 0 l c.decreases, (h.0, (h.1.0, (h.1.1.0, (h.1.1.1, record { may = record { known = c.requires.may.known; ranked = c.requires.may.ranked; above = subst (NoDeeper p) (sym kept) c.requires.may.above; wanted = c.requires.may.wanted; stands = stands_on c.args.context.now.root _ (asking c.args.question.now) keeps.root c.requires.may.stands; goes_on = (c.requires.may.goes_on.0, c.requires.may.goes_on.1, c.in_ok-valid.ensures.stays c.requires.may.goes_on.0 c.requires.may.goes_on.1 c.requires.may.goes_on.2) }; deep = c.requires.deep; carries = carries_on c.args.context.now.root _ c.args.question.now.place.now keeps.root c.requires.carries; more = c.requires.more; form = c.requires.form })))))
 
 pub run::run_entry-returns-then-valid : goal.run::run_entry-returns-then-valid
 run::run_entry-returns-then-valid g t c = record {
@@ -440,7 +441,7 @@ run::run_entry-returns-then-entry g t c = record {
 
 pub run::run_keyword-keyword_answer-requires : goal.run::run_keyword-keyword_answer-requires
 run::run_keyword-keyword_answer-requires g t c =
-    λ κs h. (lower_same _ _ t 5 0 refl c.decreases, (h.0, (h.1.0, (h.1.1.0, (h.1.1.1, record { may = record { known = c.requires.may.known; ranked = c.requires.may.ranked; above = c.requires.may.above; stands = c.requires.may.stands; goes_on = c.requires.may.goes_on }; carries = c.requires.carries; form = c.requires.form })))))
+    λ κs h. (lower_same _ _ t 5 0 refl c.decreases, (h.0, (h.1.0, (h.1.1.0, (h.1.1.1, record { may = record { known = c.requires.may.known; ranked = c.requires.may.ranked; above = c.requires.may.above; stands = c.requires.may.stands; goes_on = c.requires.may.goes_on }; deep = c.requires.deep; carries = c.requires.carries; form = c.requires.form })))))
 
 pub turns::keyword_answer-run_turns-requires : goal.turns::keyword_answer-run_turns-requires
 turns::keyword_answer-run_turns-requires g t c =
@@ -450,7 +451,7 @@ turns::keyword_answer-run_turns-requires g t c =
     let s = subject_of c.args.question.now.instance in
     let kept = c.set_aside-aside.ensures.frame.in_progress in
     let l = ap (λ es. left ns (length c.args.engine.now.nodes.now) c.args.node.0 s (busy_at p es)) kept in
-    λ κs h. (lower_same _ _ t 4 0 l c.decreases, (h.0, (h.1.0, (h.1.1.0, (h.1.1.1, record { may = record { known = c.requires.may.known; ranked = c.requires.may.ranked; above = subst (NoDeeper p) (sym kept) c.requires.may.above; stands = stands_on c.args.context.now.root _ (asking c.args.question.now) c.set_aside-aside.ensures.frame.root c.requires.may.stands; goes_on = (c.requires.may.goes_on.0, c.requires.may.goes_on.1, right_same (setting g.K.Validate.words g.K.Validate.is_whole g.K.Validate.shape g.M.Matcher.matching c.args.engine.now) c.requires.may.goes_on.0 c.args.context.now c.set_aside-aside.new.self c.set_aside-aside.ensures.frame.remembered c.set_aside-aside.ensures.frame.verdicts c.requires.may.goes_on.2) }; carries = carries_on c.args.context.now.root _ c.args.question.now.place.now c.set_aside-aside.ensures.frame.root c.requires.carries; form = c.requires.form; begun = begun; no_faults = c.in_ok-answer.ensures.no_faults; no_marks = c.set_aside-aside.ensures.none })))))
+    λ κs h. (lower_same _ _ t 4 0 l c.decreases, (h.0, (h.1.0, (h.1.1.0, (h.1.1.1, record { may = record { known = c.requires.may.known; ranked = c.requires.may.ranked; above = subst (NoDeeper p) (sym kept) c.requires.may.above; stands = stands_on c.args.context.now.root _ (asking c.args.question.now) c.set_aside-aside.ensures.frame.root c.requires.may.stands; goes_on = (c.requires.may.goes_on.0, c.requires.may.goes_on.1, right_same (setting g.K.Validate.words g.K.Validate.is_whole g.K.Validate.shape g.M.Matcher.matching c.args.engine.now) c.requires.may.goes_on.0 c.args.context.now c.set_aside-aside.new.self c.set_aside-aside.ensures.frame.remembered c.set_aside-aside.ensures.frame.verdicts c.requires.may.goes_on.2) }; deep = c.requires.deep; carries = carries_on c.args.context.now.root _ c.args.question.now.place.now c.set_aside-aside.ensures.frame.root c.requires.carries; form = c.requires.form; begun = begun; no_faults = c.in_ok-answer.ensures.no_faults; no_marks = c.set_aside-aside.ensures.none })))))
 
 pub turns::keyword_answer-returns : goal.turns::keyword_answer-returns
 turns::keyword_answer-returns g t c = record {
@@ -577,7 +578,7 @@ turns::run_turns-ask_child-requires g t c =
     let l = ap (λ es. left ns (length c.args.engine.now.nodes.now) c.args.node.0 s (busy_at p es)) kept in
     let q : Question = record { child = c.in-Ask.child; below = below_of c.in-Ask.below } in
     let there = asks_there (g.K.Validate.words false) m (g.K.Validate.absorbed m) (g.K.Validate.remaining m) (g.K.Validate.can_be false m) (g.K.Validate.ends false m) (g.K.Validate.fits false m) (g.met.K.Validate.turn_laws false m) s (c.turns.run, answer_of false c.turns.answer) told q (mode_of c.in-Ask.wanted) c.turns.invariant.can ((g.met.K.Validate.function_laws false m).present s) step in
-    λ κs h. (lower_same _ _ t 3 0 l c.decreases, (h.0, (h.1.0, (h.1.1.0, (h.1.1.1, record { may = record { known = c.requires.may.known; ranked = c.requires.may.ranked; above = subst (NoDeeper p) (sym kept) c.requires.may.above; stands = stands_on c.args.context.now.root _ (asking c.args.question.now) c.turns.invariant.root c.requires.may.stands; goes_on = (c.requires.may.goes_on.0, c.requires.may.goes_on.1, c.turns.invariant.stays c.requires.may.goes_on.0 c.requires.may.goes_on.1 c.requires.may.goes_on.2) }; carries = carries_on c.args.context.now.root _ c.args.question.now.place.now c.turns.invariant.root c.requires.carries; children = keyword_children ns c.args.node.0 m es c.requires.form; present = there })))))
+    λ κs h. (lower_same _ _ t 3 0 l c.decreases, (h.0, (h.1.0, (h.1.1.0, (h.1.1.1, record { may = record { known = c.requires.may.known; ranked = c.requires.may.ranked; above = subst (NoDeeper p) (sym kept) c.requires.may.above; stands = stands_on c.args.context.now.root _ (asking c.args.question.now) c.turns.invariant.root c.requires.may.stands; goes_on = (c.requires.may.goes_on.0, c.requires.may.goes_on.1, c.turns.invariant.stays c.requires.may.goes_on.0 c.requires.may.goes_on.1 c.requires.may.goes_on.2) }; deep = c.requires.deep; carries = carries_on c.args.context.now.root _ c.args.question.now.place.now c.turns.invariant.root c.requires.carries; children = keyword_children ns c.args.node.0 m es c.requires.form; present = there })))))
 
 pub turns::run_turns-returns-in-Done : goal.turns::run_turns-returns-in-Done
 turns::run_turns-returns-in-Done g t c = record {
@@ -947,7 +948,7 @@ evaluate::evaluate_child-evaluate_edge-requires g t c =
     let e = edge_of c.in-Some.edge.now in
     let k = c.requires.children c.args.child e (sym c.in-Some.ensures.edge) in
     let l = falls_here g.K.Validate.words g.K.Validate.is_whole ns (length c.args.engine.now.nodes.now) w c.requires.may.ranked c.args.node.0 s busy e c.requires.may.known k in
-    λ κs h. (lower_edge _ _ _ t 0 refl l c.decreases, (h.0, (h.1.0, (h.1.1.0, (h.1.1.1, record { may = record { known = (c.requires.may.ranked c.args.node.0 c.requires.may.known e k).0; ranked = c.requires.may.ranked; above = c.requires.may.above; wanted = c.requires.may.wanted; stands = c.requires.may.stands; goes_on = c.requires.may.goes_on }; carries = c.requires.carries })))))
+    λ κs h. (lower_edge _ _ _ t 0 refl l c.decreases, (h.0, (h.1.0, (h.1.1.0, (h.1.1.1, record { may = record { known = (c.requires.may.ranked c.args.node.0 c.requires.may.known e k).0; ranked = c.requires.may.ranked; above = c.requires.may.above; wanted = c.requires.may.wanted; stands = c.requires.may.stands; goes_on = c.requires.may.goes_on }; deep = c.requires.deep; carries = c.requires.carries })))))
 
 pub evaluate::evaluate_child-evaluate_edge-requires-in-Some-one_below : goal.evaluate::evaluate_child-evaluate_edge-requires-in-Some-one_below
 evaluate::evaluate_child-evaluate_edge-requires-in-Some-one_below g t c =
@@ -967,7 +968,7 @@ evaluate::evaluate_child-evaluate_edge-requires-in-Some-one_below g t c =
     let n = ap (edge_needs ns (length c.args.engine.now.nodes.now) e inner) none in
     let (layout, laid, right) = c.requires.may.goes_on in
     let below = laid_below layout p s inner step (steps_to c.below-lower.result) laid c.below-lower.ensures.below c.in-Some-one_below.ensures.below.1 in
-    λ κs h. (lower_edge _ _ _ t 0 n l c.decreases, (h.0, (h.1.0, (h.1.1.0, (h.1.1.1, record { may = record { known = (c.requires.may.ranked c.args.node.0 c.requires.may.known e k).0; ranked = c.requires.may.ranked; above = deeper; wanted = c.requires.may.wanted; stands = stands_below (view c.args.context.now.root) p (subject_of c.args.question.now.instance) (subject_of c.in-Some-one_below.inner) step (steps_to c.below-lower.result) c.requires.may.stands c.below-lower.ensures.below c.in-Some-one_below.ensures.below.1; goes_on = (layout, below, right) }; carries = c.below-lower.ensures.carries (places_in c.args.context.now) c.requires.carries })))))
+    λ κs h. (lower_edge _ _ _ t 0 n l c.decreases, (h.0, (h.1.0, (h.1.1.0, (h.1.1.1, record { may = record { known = (c.requires.may.ranked c.args.node.0 c.requires.may.known e k).0; ranked = c.requires.may.ranked; above = deeper; wanted = c.requires.may.wanted; stands = stands_below (view c.args.context.now.root) p (subject_of c.args.question.now.instance) (subject_of c.in-Some-one_below.inner) step (steps_to c.below-lower.result) c.requires.may.stands c.below-lower.ensures.below c.in-Some-one_below.ensures.below.1; goes_on = (layout, below, right) }; deep = c.requires.deep; carries = c.below-lower.ensures.carries (places_in c.args.context.now) c.requires.carries })))))
 
 pub evaluate::evaluate_child-returns-in-None-one_below : goal.evaluate::evaluate_child-returns-in-None-one_below
 evaluate::evaluate_child-returns-in-None-one_below g t c = record {
@@ -1067,7 +1068,7 @@ evaluate::evaluate_entries-evaluate_entry-requires g t c =
     let kept = c.loop-entry.invariant.kept in
     let l = ap (λ es. left ns (length c.args.engine.now.nodes.now) c.args.node.0 (subject_of c.args.question.now.instance) (busy_at p es)) kept in
     let here = part_at entry_of (shaped_part g.K.Validate.shape) c.args.entries.now c.loop-entry.entry-index c.entry-item.result c.loop-entry-test.true c.entry-item.is in
-    λ κs h. (lower_same _ _ t 8 0 l c.decreases, (h.0, (h.1.0, (h.1.1.0, (h.1.1.1, record { may = record { known = c.requires.may.known; ranked = c.requires.may.ranked; above = subst (NoDeeper p) (sym kept) c.requires.may.above; wanted = c.requires.may.wanted; stands = stands_on c.args.context.now.root _ (asking c.args.question.now) c.loop-entry.invariant.root c.requires.may.stands; goes_on = (c.requires.may.goes_on.0, c.requires.may.goes_on.1, c.loop-entry.invariant.stays c.requires.may.goes_on.0 c.requires.may.goes_on.1 c.requires.may.goes_on.2) }; carries = carries_on c.args.context.now.root _ c.args.question.now.place.now c.loop-entry.invariant.root c.requires.carries; pointed = c.requires.pointed; form = (c.requires.parts.0, c.requires.parts.1, shaped_part g.K.Validate.shape (entry_of c.entry-item.result), c.requires.parts.2 _ here, refl) })))))
+    λ κs h. (lower_same _ _ t 8 0 l c.decreases, (h.0, (h.1.0, (h.1.1.0, (h.1.1.1, record { may = record { known = c.requires.may.known; ranked = c.requires.may.ranked; above = subst (NoDeeper p) (sym kept) c.requires.may.above; wanted = c.requires.may.wanted; stands = stands_on c.args.context.now.root _ (asking c.args.question.now) c.loop-entry.invariant.root c.requires.may.stands; goes_on = (c.requires.may.goes_on.0, c.requires.may.goes_on.1, c.loop-entry.invariant.stays c.requires.may.goes_on.0 c.requires.may.goes_on.1 c.requires.may.goes_on.2) }; deep = c.requires.deep; carries = carries_on c.args.context.now.root _ c.args.question.now.place.now c.loop-entry.invariant.root c.requires.carries; pointed = c.requires.pointed; form = (c.requires.parts.0, c.requires.parts.1, shaped_part g.K.Validate.shape (entry_of c.entry-item.result), c.requires.parts.2 _ here, refl) })))))
 
 pub evaluate::evaluate_entries-loop-entry-preserved : goal.evaluate::evaluate_entries-loop-entry-preserved
 evaluate::evaluate_entries-loop-entry-preserved g t c =
@@ -1138,7 +1139,7 @@ evaluate::evaluate_entry-evaluate_edge-requires g t c =
     let e = edge_of c.in-Reference.edge in
     let k = reference_edge ns c.args.node.0 e (rw c.in-Reference.is at c.requires.form) in
     let l = falls_here g.K.Validate.words g.K.Validate.is_whole ns (length c.args.engine.now.nodes.now) w c.requires.may.ranked c.args.node.0 s busy e c.requires.may.known k in
-    λ κs h. (lower_edge _ _ _ t 7 refl l c.decreases, (h.0, (h.1.0, (h.1.1.0, (h.1.1.1, record { may = record { known = (c.requires.may.ranked c.args.node.0 c.requires.may.known e k).0; ranked = c.requires.may.ranked; above = c.requires.may.above; wanted = c.requires.may.wanted; stands = c.requires.may.stands; goes_on = c.requires.may.goes_on }; carries = c.requires.carries })))))
+    λ κs h. (lower_edge _ _ _ t 7 refl l c.decreases, (h.0, (h.1.0, (h.1.1.0, (h.1.1.1, record { may = record { known = (c.requires.may.ranked c.args.node.0 c.requires.may.known e k).0; ranked = c.requires.may.ranked; above = c.requires.may.above; wanted = c.requires.may.wanted; stands = c.requires.may.stands; goes_on = c.requires.may.goes_on }; deep = c.requires.deep ∙ ap held (sym c.under_reference-path.ensures.edges); carries = c.requires.carries })))))
 
 pub evaluate::evaluate_entry-returns-in-Keyword : goal.evaluate::evaluate_entry-returns-in-Keyword
 evaluate::evaluate_entry-returns-in-Keyword g t c = record {
@@ -1188,7 +1189,7 @@ evaluate::evaluate_entry-returns-in_ok-unit-in-Reference g t c = record {
 
 pub evaluate::evaluate_keyword-keyword_answer-requires : goal.evaluate::evaluate_keyword-keyword_answer-requires
 evaluate::evaluate_keyword-keyword_answer-requires g t c =
-    λ κs h. (lower_same _ _ t 5 0 refl c.decreases, (h.0, (h.1.0, (h.1.1.0, (h.1.1.1, record { may = record { known = c.requires.may.known; ranked = c.requires.may.ranked; above = c.requires.may.above; stands = c.requires.may.stands; goes_on = c.requires.may.goes_on }; carries = c.requires.carries; form = c.requires.form })))))
+    λ κs h. (lower_same _ _ t 5 0 refl c.decreases, (h.0, (h.1.0, (h.1.1.0, (h.1.1.1, record { may = record { known = c.requires.may.known; ranked = c.requires.may.ranked; above = c.requires.may.above; stands = c.requires.may.stands; goes_on = c.requires.may.goes_on }; deep = c.requires.deep; carries = c.requires.carries; form = c.requires.form })))))
 
 pub evaluate::evaluate_keyword-returns : goal.evaluate::evaluate_keyword-returns
 evaluate::evaluate_keyword-returns g t c = record {
@@ -1218,13 +1219,13 @@ pub evaluate::evaluate_node-evaluate_plan-requires : goal.evaluate::evaluate_nod
 evaluate::evaluate_node-evaluate_plan-requires g t c =
     let set = setting g.K.Validate.words g.K.Validate.is_whole g.K.Validate.shape g.M.Matcher.matching c.args.engine.now in
     let ns = numbered g.K.Validate.shape c.args.engine.now.nodes.now in
-    let l = ap (λ (z : Context). left ns (length c.args.engine.now.nodes.now) c.args.node.0 (subject_of c.args.question.now.instance) (busy_at (steps_to c.args.question.now.place.now) z.in_progress)) c.step.ensures.frame in
-    λ κs h. (lower_same _ _ t 10 0 l c.decreases, (h.0, (h.1.0, (h.1.1.0, (h.1.1.1, record { may = may_evaluate set c.args.question.now c.args.node.0 c.args.context.now c.step.new.self c.step.ensures.frame c.requires.may; carries = carried set c.args.question.now c.args.node.0 c.args.context.now c.step.new.self c.step.ensures.frame c.requires.carries })))))
+    let l = ap (λ (z : Context). left ns (length c.args.engine.now.nodes.now) c.args.node.0 (subject_of c.args.question.now.instance) (busy_at (steps_to c.args.question.now.place.now) z.in_progress)) c.open_question.ensures.frame in
+    λ κs h. (lower_same _ _ t 10 0 l c.decreases, (h.0, (h.1.0, (h.1.1.0, (h.1.1.1, (record { may = may_evaluate set c.args.question.now c.args.node.0 c.args.context.now c.open_question.new.context c.open_question.ensures.frame c.requires.may; deep = c.requires.deep; carries = carried set c.args.question.now c.args.node.0 c.args.context.now c.open_question.new.context c.open_question.ensures.frame c.requires.carries }, c.in_ok-open_question.ensures.room))))))
 
 pub evaluate::evaluate_node-returns : goal.evaluate::evaluate_node-returns
 evaluate::evaluate_node-returns g t c =
     let set = setting g.K.Validate.words g.K.Validate.is_whole g.K.Validate.shape g.M.Matcher.matching c.args.engine.now in
-    given set c.args.question.now c.args.node.0 c.args.context.now c.step.new.self c.step.ensures.frame c.in_ok-step.ensures.asks c.evaluate_plan.new.context c.evaluate_plan.result c.evaluate_plan.ensures
+    given set c.args.question.now c.args.node.0 c.args.context.now c.open_question.new.context c.open_question.ensures.frame c.in_ok-open_question.ensures.asks c.evaluate_plan.new.context c.evaluate_plan.result c.evaluate_plan.ensures
 
 pub evaluate::evaluate_plan-evaluate_entries-requires : goal.evaluate::evaluate_plan-evaluate_entries-requires
 evaluate::evaluate_plan-evaluate_entries-requires g t c =
@@ -1236,9 +1237,9 @@ evaluate::evaluate_plan-evaluate_entries-requires g t c =
     let asked : Asking = record { subject = q.subject; place = q.place; path = path_of c.kept-path.result; mode = q.mode } in
     let is : asked ≡ q = λ i. record { subject = q.subject; place = q.place; path = (c.kept-path.ensures.same ∙ c.in_ok-kept-in-Keywords.ensures.path) i; mode = q.mode } in
     let l = ap (λ (z : Context). left ns (length c.args.engine.now.nodes.now) c.args.node.0 q.subject (busy_at q.place z.in_progress)) c.node_texts.ensures.stays in
-    let may = subst (λ z. MayEvaluate set z c.node_texts.new.self c.args.node.0) (sym is) (subst (λ z. MayEvaluate set q z c.args.node.0) (sym c.node_texts.ensures.stays) c.requires.may) in
-    let carries = subst (λ z. CarriesItsNumber (places_in z) c.args.question.now.place.now) (sym c.node_texts.ensures.stays) c.requires.carries in
-    λ κs h. (lower_same _ _ t 9 0 l c.decreases, (h.0, (h.1.0, (h.1.1.0, (h.1.1.1, record { may = may; carries = carries; pointed = c.in_ok-pointer-in-Keywords.ensures.same ∙ c.in_ok-place-in-Keywords.ensures.pointer; parts = rw c.as_slice.ensures.value (_, plan, λ y k. k) })))))
+    let may = subst (λ z. MayEvaluate set z c.node_texts.new.self c.args.node.0) (sym is) (subst (λ z. MayEvaluate set q z c.args.node.0) (sym c.node_texts.ensures.stays) c.requires.may_evaluate.may) in
+    let carries = subst (λ z. CarriesItsNumber (places_in z) c.args.question.now.place.now) (sym c.node_texts.ensures.stays) c.requires.may_evaluate.carries in
+    λ κs h. (lower_same _ _ t 9 0 l c.decreases, (h.0, (h.1.0, (h.1.1.0, (h.1.1.1, record { may = may; deep = c.requires.may_evaluate.deep ∙ ap held (sym c.kept-path.ensures.edges); carries = carries; pointed = c.in_ok-pointer-in-Keywords.ensures.same ∙ c.in_ok-place-in-Keywords.ensures.pointer; parts = rw c.as_slice.ensures.value (_, plan, λ y k. k) })))))
 
 pub evaluate::evaluate_plan-returns-in-None : goal.evaluate::evaluate_plan-returns-in-None
 evaluate::evaluate_plan-returns-in-None g t c = record {
@@ -1410,7 +1411,7 @@ run::run_edge-run_node-requires-2 g t c =
     let right' = right_same set layout c.args.context.now c.enter.new.context (c.enter.ensures.frame.remembered ∙ ap (λ (z : Context). z.remembered) c.in_ok-pair.ensures.unchanged) (c.enter.ensures.frame.verdicts ∙ ap (λ (z : Context). z.verdicts) c.in_ok-pair.ensures.unchanged) right in
     let root = c.enter.ensures.frame.root ∙ ap (λ (z : Context). z.root) c.in_ok-pair.ensures.unchanged in
     let carries = carries_on c.args.context.now.root c.enter.new.context.root c.numbered_place-place.result root (c.numbered_place-place.ensures.carries c.args.context.now c.in_ok-pair.ensures.numbered) in
-    λ κs h. (lower_entered _ _ _ t l needs c.decreases, (h.0, (h.1.0, (h.1.1.0, (h.1.1.1, record { may = record { known = c.requires.may.known; ranked = c.requires.may.ranked; above = deeper; wanted = c.requires.may.wanted; stands = stands_at c.args.context.now.root _ (asking c.args.question.now) _ root there c.requires.may.stands; goes_on = (layout, laid', right') }; carries = carries; more = c.requires.more })))))
+    λ κs h. (lower_entered _ _ _ t l needs c.decreases, (h.0, (h.1.0, (h.1.1.0, (h.1.1.1, record { may = record { known = c.requires.may.known; ranked = c.requires.may.ranked; above = deeper; wanted = c.requires.may.wanted; stands = stands_at c.args.context.now.root _ (asking c.args.question.now) _ root there c.requires.may.stands; goes_on = (layout, laid', right') }; deep = c.depth_below-depth-2.ensures.deeper c.requires.deep ∙ ap held (sym c.across-whole.ensures.edges); carries = carries; more = c.requires.more })))))
 
 pub run::run_edge-returns : goal.run::run_edge-returns
 run::run_edge-returns g t c = record {
@@ -1532,7 +1533,7 @@ evaluate::evaluate_edge-evaluate_node-requires-2 g t c =
     let right' = right_same set layout c.args.context.now c.enter.new.context (c.enter.ensures.frame.remembered ∙ ap (λ (z : Context). z.remembered) c.in_ok-pair.ensures.unchanged) (c.enter.ensures.frame.verdicts ∙ ap (λ (z : Context). z.verdicts) c.in_ok-pair.ensures.unchanged) right in
     let root = c.enter.ensures.frame.root ∙ ap (λ (z : Context). z.root) c.in_ok-pair.ensures.unchanged in
     let carries = carries_on c.args.context.now.root c.enter.new.context.root c.numbered_place-place.result root (c.numbered_place-place.ensures.carries c.args.context.now c.in_ok-pair.ensures.numbered) in
-    λ κs h. (lower_entered _ _ _ t l needs c.decreases, (h.0, (h.1.0, (h.1.1.0, (h.1.1.1, record { may = record { known = c.requires.may.known; ranked = c.requires.may.ranked; above = deeper; wanted = c.requires.may.wanted; stands = stands_at c.args.context.now.root _ (asking c.args.question.now) _ root there c.requires.may.stands; goes_on = (layout, laid', right') }; carries = carries })))))
+    λ κs h. (lower_entered _ _ _ t l needs c.decreases, (h.0, (h.1.0, (h.1.1.0, (h.1.1.1, record { may = record { known = c.requires.may.known; ranked = c.requires.may.ranked; above = deeper; wanted = c.requires.may.wanted; stands = stands_at c.args.context.now.root _ (asking c.args.question.now) _ root there c.requires.may.stands; goes_on = (layout, laid', right') }; deep = c.depth_below-depth-2.ensures.deeper c.requires.deep ∙ ap held (sym c.across-whole.ensures.edges); carries = carries })))))
 
 pub evaluate::evaluate_edge-returns : goal.evaluate::evaluate_edge-returns
 evaluate::evaluate_edge-returns g t c = record {

@@ -27,6 +27,7 @@ use Rattle.schema_run_steps.specs.NodeRuns.{ChildReplies, EdgeReplies, Reading, 
 use Rattle.schema_run_context.specs.Progress.{Context, NoDeeper, busy_at}
 use Rattle.theory_runs.specs.RightVerdicts.{LaysOut}
 use Rattle.schema_run_steps.specs.Askings.{asking}
+use Rattle.schema_run_steps.specs.Depths.{held}
 use Rattle.theory_runs.specs.RunStates.{EdgeSays, FormRemembers, FormSays, Keeps, MeetsNode, NodeSays, StaysRight, setting}
 use Rattle.schema_run_context.specs.Verdicts.{one_more}
 use Rattle.schema_traits.specs.declared.keyword.Reply.TheVariants as told
@@ -74,7 +75,7 @@ verdict::verdict_child-verdict_edge-requires g t c =
     let e = edge_of c.in-Some.edge.now in
     let k = c.requires.stands.0 c.args.child e (sym c.in-Some.ensures.edge) in
     let l = falls_here g.K.Validate.words g.K.Validate.is_whole ns (length c.args.engine.now.nodes.now) (settling (g.M.Matcher.matching c.args.engine.now.matcher.now) c.args.context.now.remembered.assumptions) c.requires.may.ranked c.args.node.0 (subject_of c.args.question.now.instance) (busy_at (steps_to c.args.question.now.place.now) c.args.context.now.in_progress) e c.requires.may.known k in
-    λ κs h. (lower_across _ _ _ t 0 refl l c.decreases, (h.0, (h.1.0, (h.1.1.0, (h.1.1.1, record { may = record { known = (c.requires.may.ranked c.args.node.0 c.requires.may.known e k).0; ranked = c.requires.may.ranked; above = c.requires.may.above; wanted = c.requires.may.wanted; stands = c.requires.may.stands; goes_on = c.requires.may.goes_on }; carries = c.requires.carries; verdict = c.requires.verdict; stands = tt })))))
+    λ κs h. (lower_across _ _ _ t 0 refl l c.decreases, (h.0, (h.1.0, (h.1.1.0, (h.1.1.1, record { may = record { known = (c.requires.may.ranked c.args.node.0 c.requires.may.known e k).0; ranked = c.requires.may.ranked; above = c.requires.may.above; wanted = c.requires.may.wanted; stands = c.requires.may.stands; goes_on = c.requires.may.goes_on }; carries = c.requires.carries; deep = c.requires.deep; verdict = c.requires.verdict; stands = tt })))))
 
 pub verdict::verdict_child-verdict_edge-requires-in-Some-one_below : goal.verdict::verdict_child-verdict_edge-requires-in-Some-one_below
 verdict::verdict_child-verdict_edge-requires-in-Some-one_below g t c =
@@ -90,7 +91,7 @@ verdict::verdict_child-verdict_edge-requires-in-Some-one_below g t c =
     let n = ap (edge_needs ns (length c.args.engine.now.nodes.now) e (subject_of c.in-Some-one_below.inner)) none in
     let (layout, laid, right) = c.requires.may.goes_on in
     let below = laid_below layout p (subject_of c.args.question.now.instance) (subject_of c.in-Some-one_below.inner) step (steps_to c.below-lower.result) laid c.below-lower.ensures.below c.in-Some-one_below.ensures.below.1 in
-    λ κs h. (lower_across _ _ _ t 0 n l c.decreases, (h.0, (h.1.0, (h.1.1.0, (h.1.1.1, record { may = record { known = (c.requires.may.ranked c.args.node.0 c.requires.may.known e k).0; ranked = c.requires.may.ranked; above = deeper; wanted = c.requires.may.wanted; stands = stands_below (view c.args.context.now.root) p (subject_of c.args.question.now.instance) (subject_of c.in-Some-one_below.inner) step (steps_to c.below-lower.result) c.requires.may.stands c.below-lower.ensures.below c.in-Some-one_below.ensures.below.1; goes_on = (layout, below, right) }; carries = c.below-lower.ensures.carries (places_in c.args.context.now) c.requires.carries; verdict = c.requires.verdict; stands = tt })))))
+    λ κs h. (lower_across _ _ _ t 0 n l c.decreases, (h.0, (h.1.0, (h.1.1.0, (h.1.1.1, record { may = record { known = (c.requires.may.ranked c.args.node.0 c.requires.may.known e k).0; ranked = c.requires.may.ranked; above = deeper; wanted = c.requires.may.wanted; stands = stands_below (view c.args.context.now.root) p (subject_of c.args.question.now.instance) (subject_of c.in-Some-one_below.inner) step (steps_to c.below-lower.result) c.requires.may.stands c.below-lower.ensures.below c.in-Some-one_below.ensures.below.1; goes_on = (layout, below, right) }; carries = c.below-lower.ensures.carries (places_in c.args.context.now) c.requires.carries; deep = c.requires.deep; verdict = c.requires.verdict; stands = tt })))))
 
 pub verdict::verdict_child-returns-in-None-one_below : goal.verdict::verdict_child-returns-in-None-one_below
 verdict::verdict_child-returns-in-None-one_below g t c = record {
@@ -212,7 +213,7 @@ verdict::verdict_form-returns-else-finishes g t c = rw (c.in-Keyword.is, ← c.a
 
 pub verdict::verdict_form-keyword_verdict-requires : goal.verdict::verdict_form-keyword_verdict-requires
 verdict::verdict_form-keyword_verdict-requires g t c =
-    λ κs h. (lower_same _ _ t 5 2 refl c.decreases, (h.0, (h.1.0, (h.1.1.0, (h.1.1.1, record { may = c.requires.may; carries = c.requires.carries; verdict = c.requires.verdict; stands = rw (c.in-Keyword.is, ← c.as_slice.ensures.value) at c.requires.stands })))))
+    λ κs h. (lower_same _ _ t 5 2 refl c.decreases, (h.0, (h.1.0, (h.1.1.0, (h.1.1.1, record { may = c.requires.may; carries = c.requires.carries; deep = c.requires.deep; verdict = c.requires.verdict; stands = rw (c.in-Keyword.is, ← c.as_slice.ensures.value) at c.requires.stands })))))
 
 pub verdict::verdict_form-verdict_reference-requires : goal.verdict::verdict_form-verdict_reference-requires
 verdict::verdict_form-verdict_reference-requires g t c =
@@ -220,7 +221,7 @@ verdict::verdict_form-verdict_reference-requires g t c =
     let e = edge_of c.in-Reference.edge in
     let k = reference_edge ns c.args.node.0 e (rw c.in-Reference.is at c.requires.stands) in
     let l = falls_here g.K.Validate.words g.K.Validate.is_whole ns (length c.args.engine.now.nodes.now) (settling (g.M.Matcher.matching c.args.engine.now.matcher.now) c.args.context.now.remembered.assumptions) c.requires.may.ranked c.args.node.0 (subject_of c.args.question.now.instance) (busy_at (steps_to c.args.question.now.place.now) c.args.context.now.in_progress) e c.requires.may.known k in
-    λ κs h. (lower_reference _ _ _ t 5 refl l c.decreases, (h.0, (h.1.0, (h.1.1.0, (h.1.1.1, record { may = record { known = (c.requires.may.ranked c.args.node.0 c.requires.may.known e k).0; ranked = c.requires.may.ranked; above = c.requires.may.above; wanted = c.requires.may.wanted; stands = c.requires.may.stands; goes_on = c.requires.may.goes_on }; carries = c.requires.carries; verdict = c.requires.verdict; stands = tt })))))
+    λ κs h. (lower_reference _ _ _ t 5 refl l c.decreases, (h.0, (h.1.0, (h.1.1.0, (h.1.1.1, record { may = record { known = (c.requires.may.ranked c.args.node.0 c.requires.may.known e k).0; ranked = c.requires.may.ranked; above = c.requires.may.above; wanted = c.requires.may.wanted; stands = c.requires.may.stands; goes_on = c.requires.may.goes_on }; carries = c.requires.carries; deep = c.requires.deep; verdict = c.requires.verdict; stands = tt })))))
 
 pub verdict::verdict_form-returns-in-Reference : goal.verdict::verdict_form-returns-in-Reference
 verdict::verdict_form-returns-in-Reference g t c = record {
@@ -269,7 +270,7 @@ verdict::verdict_keyword-verdict_reference-requires g t c =
     let e = edge_of c.in-Reference.edge in
     let k = reference_edge ns c.args.node.0 e (rw c.in-Reference.is at c.requires.stands) in
     let l = falls_here g.K.Validate.words g.K.Validate.is_whole ns (length c.args.engine.now.nodes.now) (settling (g.M.Matcher.matching c.args.engine.now.matcher.now) c.args.context.now.remembered.assumptions) c.requires.may.ranked c.args.node.0 (subject_of c.args.question.now.instance) (busy_at (steps_to c.args.question.now.place.now) c.args.context.now.in_progress) e c.requires.may.known k in
-    λ κs h. (lower_reference _ _ _ t 4 refl l c.decreases, (h.0, (h.1.0, (h.1.1.0, (h.1.1.1, record { may = record { known = (c.requires.may.ranked c.args.node.0 c.requires.may.known e k).0; ranked = c.requires.may.ranked; above = c.requires.may.above; wanted = c.requires.may.wanted; stands = c.requires.may.stands; goes_on = c.requires.may.goes_on }; carries = c.requires.carries; verdict = c.requires.verdict; stands = tt })))))
+    λ κs h. (lower_reference _ _ _ t 4 refl l c.decreases, (h.0, (h.1.0, (h.1.1.0, (h.1.1.1, record { may = record { known = (c.requires.may.ranked c.args.node.0 c.requires.may.known e k).0; ranked = c.requires.may.ranked; above = c.requires.may.above; wanted = c.requires.may.wanted; stands = c.requires.may.stands; goes_on = c.requires.may.goes_on }; carries = c.requires.carries; deep = c.requires.deep; verdict = c.requires.verdict; stands = tt })))))
 
 pub verdict::verdict_keyword-returns-in-Reference : goal.verdict::verdict_keyword-returns-in-Reference
 verdict::verdict_keyword-returns-in-Reference g t c = record {
@@ -314,7 +315,7 @@ verdict::verdict_keyword-returns-in-Reference g t c = record {
 
 pub verdict::verdict_keyword-asked_verdict-requires : goal.verdict::verdict_keyword-asked_verdict-requires
 verdict::verdict_keyword-asked_verdict-requires g t c =
-    λ κs h. (lower_same _ _ t 6 0 refl c.decreases, (h.0, (h.1.0, (h.1.1.0, (h.1.1.1, record { may = c.requires.may; carries = c.requires.carries; verdict = c.requires.verdict; stands = rw (c.in-Keyword.is, ← c.as_slice.ensures.value) at c.requires.stands })))))
+    λ κs h. (lower_same _ _ t 6 0 refl c.decreases, (h.0, (h.1.0, (h.1.1.0, (h.1.1.1, record { may = c.requires.may; carries = c.requires.carries; deep = c.requires.deep; verdict = c.requires.verdict; stands = rw (c.in-Keyword.is, ← c.as_slice.ensures.value) at c.requires.stands })))))
 
 pub verdict::verdict_keyword-returns-in-Keyword : goal.verdict::verdict_keyword-returns-in-Keyword
 verdict::verdict_keyword-returns-in-Keyword g t c = rw (c.in-Keyword.is, ← c.as_slice.ensures.value) c.asked_verdict.ensures
@@ -411,7 +412,7 @@ verdict_asking::verdict_counted-verdict_there-requires g t c =
     let there = subst (λ z. StandsThere z c.in-Some.asked) so_far.there c.in-Some.ensures.there in
     let may = may_on set q c.args.context.now c.loop-asked.context c.args.node.0 so_far.keeps so_far.stays c.requires.asked.may in
     let carries = carries_on c.args.context.now.root c.loop-asked.context.root c.args.question.now.place.now so_far.keeps.root c.requires.asked.carries in
-    λ κs h. (lower_same _ _ t 3 0 l c.decreases, (h.0, (h.1.0, (h.1.1.0, (h.1.1.1, (record { may = may; carries = carries; verdict = c.requires.asked.verdict; stands = (keyword_children ns c.args.node.0 m es c.requires.asked.stands, present_there q.subject c.in-Some.asked there) }, there))))))
+    λ κs h. (lower_same _ _ t 3 0 l c.decreases, (h.0, (h.1.0, (h.1.1.0, (h.1.1.1, (record { may = may; carries = carries; deep = c.requires.asked.deep; verdict = c.requires.asked.verdict; stands = (keyword_children ns c.args.node.0 m es c.requires.asked.stands, present_there q.subject c.in-Some.asked there) }, there))))))
 
 pub verdict_asking::verdict_counted-returns-then-valid-all : goal.verdict_asking::verdict_counted-returns-then-valid-all
 verdict_asking::verdict_counted-returns-then-valid-all g t c =
@@ -523,7 +524,7 @@ verdict_asking::verdict_members-verdict_there-requires g t c =
     let there = subst (λ z. StandsThere z c.in-Some.asked) so_far.there c.in-Some.ensures.there in
     let may = may_on set q c.args.context.now c.loop-asked.context c.args.node.0 so_far.keeps so_far.stays c.requires.asked.may in
     let carries = carries_on c.args.context.now.root c.loop-asked.context.root c.args.question.now.place.now so_far.keeps.root c.requires.asked.carries in
-    λ κs h. (lower_same _ _ t 3 0 l c.decreases, (h.0, (h.1.0, (h.1.1.0, (h.1.1.1, (record { may = may; carries = carries; verdict = c.requires.asked.verdict; stands = (keyword_children ns c.args.node.0 m es c.requires.asked.stands, present_there q.subject c.in-Some.asked there) }, there))))))
+    λ κs h. (lower_same _ _ t 3 0 l c.decreases, (h.0, (h.1.0, (h.1.1.0, (h.1.1.1, (record { may = may; carries = carries; deep = c.requires.asked.deep; verdict = c.requires.asked.verdict; stands = (keyword_children ns c.args.node.0 m es c.requires.asked.stands, present_there q.subject c.in-Some.asked there) }, there))))))
 
 pub verdict_asking::verdict_members-returns-then-not-valid : goal.verdict_asking::verdict_members-returns-then-not-valid
 verdict_asking::verdict_members-returns-then-not-valid g t c =
@@ -635,7 +636,7 @@ verdict_asking::verdict_names-verdict_there-requires g t c =
     let there = subst (λ z. StandsThere z c.in-Some.asked) so_far.there c.in-Some.ensures.there in
     let may = may_on set q c.args.context.now c.loop-asked.context c.args.node.0 so_far.keeps so_far.stays c.requires.asked.may in
     let carries = carries_on c.args.context.now.root c.loop-asked.context.root c.args.question.now.place.now so_far.keeps.root c.requires.asked.carries in
-    λ κs h. (lower_same _ _ t 3 0 l c.decreases, (h.0, (h.1.0, (h.1.1.0, (h.1.1.1, (record { may = may; carries = carries; verdict = c.requires.asked.verdict; stands = (keyword_children ns c.args.node.0 m es c.requires.asked.stands, present_there q.subject c.in-Some.asked there) }, there))))))
+    λ κs h. (lower_same _ _ t 3 0 l c.decreases, (h.0, (h.1.0, (h.1.1.0, (h.1.1.1, (record { may = may; carries = carries; deep = c.requires.asked.deep; verdict = c.requires.asked.verdict; stands = (keyword_children ns c.args.node.0 m es c.requires.asked.stands, present_there q.subject c.in-Some.asked there) }, there))))))
 
 pub verdict_asking::verdict_names-returns-then-not-valid : goal.verdict_asking::verdict_names-returns-then-not-valid
 verdict_asking::verdict_names-returns-then-not-valid g t c =
@@ -724,7 +725,7 @@ verdict_asking::verdict_there-verdict_edge-requires g t c =
     let e = edge_of c.in-Some.edge.now in
     let k = question_in c.args.asked in
     let is = sym c.in-Some.ensures.edge in
-    λ κs h. (lower_across _ _ _ t 1 refl (needs_here set q c.args.node.0 _ k e c.args.context.now c.requires.asked.may c.requires.asked.stands.0 is) c.decreases, (h.0, (h.1.0, (h.1.1.0, (h.1.1.1, record { may = may_here set q c.args.node.0 _ k e c.args.context.now c.requires.asked.may c.requires.asked.stands.0 is; carries = c.requires.asked.carries; verdict = c.requires.asked.verdict; stands = tt })))))
+    λ κs h. (lower_across _ _ _ t 1 refl (needs_here set q c.args.node.0 _ k e c.args.context.now c.requires.asked.may c.requires.asked.stands.0 is) c.decreases, (h.0, (h.1.0, (h.1.1.0, (h.1.1.1, record { may = may_here set q c.args.node.0 _ k e c.args.context.now c.requires.asked.may c.requires.asked.stands.0 is; carries = c.requires.asked.carries; deep = c.requires.asked.deep; verdict = c.requires.asked.verdict; stands = tt })))))
 
 pub verdict_asking::verdict_there-verdict_edge-requires-in-Some-below : goal.verdict_asking::verdict_there-verdict_edge-requires-in-Some-below
 verdict_asking::verdict_there-verdict_edge-requires-in-Some-below g t c =
@@ -737,7 +738,7 @@ verdict_asking::verdict_there-verdict_edge-requires-in-Some-below g t c =
     let lower = steps_to c.below-lower.result in
     let is = sym c.in-Some.ensures.edge in
     let leads : after_step step q.subject ≡ Some inner = rw c.in-Some-below.is at c.requires.there in
-    λ κs h. (lower_across _ _ _ t 1 refl (needs_below set q c.args.node.0 _ k e step inner lower c.args.context.now c.requires.asked.may c.requires.asked.stands.0 is leads c.below-lower.ensures.below) c.decreases, (h.0, (h.1.0, (h.1.1.0, (h.1.1.1, record { may = may_below set q c.args.node.0 _ k e step inner lower c.args.context.now c.requires.asked.may c.requires.asked.stands.0 is leads c.below-lower.ensures.below; carries = c.below-lower.ensures.carries (places_in c.args.context.now) c.requires.asked.carries; verdict = c.requires.asked.verdict; stands = tt })))))
+    λ κs h. (lower_across _ _ _ t 1 refl (needs_below set q c.args.node.0 _ k e step inner lower c.args.context.now c.requires.asked.may c.requires.asked.stands.0 is leads c.below-lower.ensures.below) c.decreases, (h.0, (h.1.0, (h.1.1.0, (h.1.1.1, record { may = may_below set q c.args.node.0 _ k e step inner lower c.args.context.now c.requires.asked.may c.requires.asked.stands.0 is leads c.below-lower.ensures.below; carries = c.below-lower.ensures.carries (places_in c.args.context.now) c.requires.asked.carries; deep = c.requires.asked.deep; verdict = c.requires.asked.verdict; stands = tt })))))
 
 pub verdict_asking::verdict_there-returns-in-None-below : goal.verdict_asking::verdict_there-returns-in-None-below
 verdict_asking::verdict_there-returns-in-None-below g t c =
@@ -784,18 +785,18 @@ pub verdict::verdict_node-verdict_plan-requires : goal.verdict::verdict_node-ver
 verdict::verdict_node-verdict_plan-requires g t c =
     let set = setting g.K.Validate.words g.K.Validate.is_whole g.K.Validate.shape g.M.Matcher.matching c.args.engine.now in
     let ns = numbered g.K.Validate.shape c.args.engine.now.nodes.now in
-    let l = ap (λ (z : Context). left ns (length c.args.engine.now.nodes.now) c.args.node.0 (subject_of c.args.question.now.instance) (busy_at (steps_to c.args.question.now.place.now) z.in_progress)) c.step.ensures.frame in
-    λ κs h. (lower_same _ _ t 10 0 l c.decreases, (h.0, (h.1.0, (h.1.1.0, (h.1.1.1, is_asked set c.args.question.now c.args.node.0 c.args.context.now c.step.new.self c.step.ensures.frame c.requires)))))
+    let l = ap (λ (z : Context). left ns (length c.args.engine.now.nodes.now) c.args.node.0 (subject_of c.args.question.now.instance) (busy_at (steps_to c.args.question.now.place.now) z.in_progress)) c.open_question.ensures.frame in
+    λ κs h. (lower_same _ _ t 10 0 l c.decreases, (h.0, (h.1.0, (h.1.1.0, (h.1.1.1, (is_asked set c.args.question.now c.args.node.0 c.args.context.now c.open_question.new.context c.open_question.ensures.frame c.requires, c.in_ok-open_question.ensures.room))))))
 
 pub verdict::verdict_node-returns : goal.verdict::verdict_node-returns
 verdict::verdict_node-returns g t c =
     let set = setting g.K.Validate.words g.K.Validate.is_whole g.K.Validate.shape g.M.Matcher.matching c.args.engine.now in
-    answers set c.args.question.now c.args.node.0 c.args.context.now c.step.new.self c.step.ensures.frame c.in_ok-step.ensures.asks c.verdict_plan.new.context c.verdict_plan.result c.verdict_plan.ensures
+    answers set c.args.question.now c.args.node.0 c.args.context.now c.open_question.new.context c.open_question.ensures.frame c.in_ok-open_question.ensures.asks c.verdict_plan.new.context c.verdict_plan.result c.verdict_plan.ensures
 
 pub verdict::verdict_plan-verdict_entries-requires : goal.verdict::verdict_plan-verdict_entries-requires
 verdict::verdict_plan-verdict_entries-requires g t c =
     let plan = plan_is g.K.Validate.shape c.args.engine.now.nodes.now c.args.node.0 (node_of c.node.result.now) _ c.node.ensures.found (ap (option_map plan_of) c.in-Some.is ∙ ap (λ f. Some (plan_of f)) c.in-Keywords.is) in
-    λ κs h. (lower_same _ _ t 9 0 refl c.decreases, (h.0, (h.1.0, (h.1.1.0, (h.1.1.1, record { may = c.requires.may; carries = c.requires.carries; verdict = c.requires.verdict; stands = rw c.as_slice.ensures.value (_, plan, λ y k. k) })))))
+    λ κs h. (lower_same _ _ t 9 0 refl c.decreases, (h.0, (h.1.0, (h.1.1.0, (h.1.1.1, record { may = c.requires.asked.may; carries = c.requires.asked.carries; deep = c.requires.asked.deep; verdict = c.requires.asked.verdict; stands = rw c.as_slice.ensures.value (_, plan, λ y k. k) })))))
 
 pub verdict::verdict_plan-returns-in-None : goal.verdict::verdict_plan-returns-in-None
 verdict::verdict_plan-returns-in-None g t c = record {
@@ -814,7 +815,7 @@ verdict::verdict_plan-returns-in-None g t c = record {
       let mode = mode_of c.args.question.now.mode in
       let path = path_of c.args.question.now.path.now in
       let plan = plan_none g.K.Validate.shape c.args.engine.now.nodes.now c.args.node.0 (node_of c.node.result.now) c.node.ensures.found (ap (option_map plan_of) c.in-None.is) in
-      node_by_plan g.K.Validate.words g.K.Validate.is_whole ns (length c.args.engine.now.nodes.now) w mode path p busy s c.args.node.0 (told.Truth true) node_always plan (λ x reads l. verdict_replies mode c.requires.verdict x true _ refl);
+      node_by_plan g.K.Validate.words g.K.Validate.is_whole ns (length c.args.engine.now.nodes.now) w mode path p busy s c.args.node.0 (told.Truth true) node_always plan (λ x reads l. verdict_replies mode c.requires.asked.verdict x true _ refl);
   meets =
       let ns = numbered g.K.Validate.shape c.args.engine.now.nodes.now in
       let w = settling (g.M.Matcher.matching c.args.engine.now.matcher.now) c.args.context.now.remembered.assumptions in
@@ -846,7 +847,7 @@ verdict::verdict_plan-returns-in-Always g t c = record {
       let mode = mode_of c.args.question.now.mode in
       let path = path_of c.args.question.now.path.now in
       let plan = plan_is g.K.Validate.shape c.args.engine.now.nodes.now c.args.node.0 (node_of c.node.result.now) _ c.node.ensures.found (ap (option_map plan_of) c.in-Some.is ∙ ap (λ f. Some (plan_of f)) c.in-Always.is) in
-      node_by_plan g.K.Validate.words g.K.Validate.is_whole ns (length c.args.engine.now.nodes.now) w mode path p busy s c.args.node.0 (told.Truth true) node_always plan (λ x reads l. verdict_replies mode c.requires.verdict x true _ refl);
+      node_by_plan g.K.Validate.words g.K.Validate.is_whole ns (length c.args.engine.now.nodes.now) w mode path p busy s c.args.node.0 (told.Truth true) node_always plan (λ x reads l. verdict_replies mode c.requires.asked.verdict x true _ refl);
   meets =
       let ns = numbered g.K.Validate.shape c.args.engine.now.nodes.now in
       let w = settling (g.M.Matcher.matching c.args.engine.now.matcher.now) c.args.context.now.remembered.assumptions in
@@ -878,7 +879,7 @@ verdict::verdict_plan-returns-in-Never g t c = record {
       let mode = mode_of c.args.question.now.mode in
       let path = path_of c.args.question.now.path.now in
       let plan = plan_is g.K.Validate.shape c.args.engine.now.nodes.now c.args.node.0 (node_of c.node.result.now) _ c.node.ensures.found (ap (option_map plan_of) c.in-Some.is ∙ ap (λ f. Some (plan_of f)) c.in-Never.is) in
-      node_by_plan g.K.Validate.words g.K.Validate.is_whole ns (length c.args.engine.now.nodes.now) w mode path p busy s c.args.node.0 (told.Truth false) node_never plan (λ x reads l. verdict_replies mode c.requires.verdict x false _ refl);
+      node_by_plan g.K.Validate.words g.K.Validate.is_whole ns (length c.args.engine.now.nodes.now) w mode path p busy s c.args.node.0 (told.Truth false) node_never plan (λ x reads l. verdict_replies mode c.requires.asked.verdict x false _ refl);
   meets =
       let ns = numbered g.K.Validate.shape c.args.engine.now.nodes.now in
       let w = settling (g.M.Matcher.matching c.args.engine.now.matcher.now) c.args.context.now.remembered.assumptions in
@@ -944,7 +945,7 @@ verdict::verdict_entries-verdict_form-requires g t c =
     let kept = c.loop-entry.invariant.kept in
     let l = ap (λ es. left ns (length c.args.engine.now.nodes.now) c.args.node.0 (subject_of c.args.question.now.instance) (busy_at p es)) kept in
     let here = part_at entry_of (shaped_part g.K.Validate.shape) c.args.entries.now c.loop-entry.entry-index c.entry-item.result c.loop-entry-test.true c.entry-item.is in
-    λ κs h. (lower_same _ _ t 8 0 l c.decreases, (h.0, (h.1.0, (h.1.1.0, (h.1.1.1, record { may = record { known = c.requires.may.known; ranked = c.requires.may.ranked; above = subst (NoDeeper p) (sym kept) c.requires.may.above; wanted = c.requires.may.wanted; stands = stands_on c.args.context.now.root _ (asking c.args.question.now) c.loop-entry.invariant.root c.requires.may.stands; goes_on = (c.requires.may.goes_on.0, c.requires.may.goes_on.1, c.loop-entry.invariant.stays c.requires.may.goes_on.0 c.requires.may.goes_on.1 c.requires.may.goes_on.2) }; carries = carries_on c.args.context.now.root _ c.args.question.now.place.now c.loop-entry.invariant.root c.requires.carries; verdict = c.requires.verdict; stands = (c.requires.stands.0, c.requires.stands.1, shaped_part g.K.Validate.shape (entry_of c.entry-item.result), c.requires.stands.2 _ here, refl) })))))
+    λ κs h. (lower_same _ _ t 8 0 l c.decreases, (h.0, (h.1.0, (h.1.1.0, (h.1.1.1, record { may = record { known = c.requires.may.known; ranked = c.requires.may.ranked; above = subst (NoDeeper p) (sym kept) c.requires.may.above; wanted = c.requires.may.wanted; stands = stands_on c.args.context.now.root _ (asking c.args.question.now) c.loop-entry.invariant.root c.requires.may.stands; goes_on = (c.requires.may.goes_on.0, c.requires.may.goes_on.1, c.loop-entry.invariant.stays c.requires.may.goes_on.0 c.requires.may.goes_on.1 c.requires.may.goes_on.2) }; carries = carries_on c.args.context.now.root _ c.args.question.now.place.now c.loop-entry.invariant.root c.requires.carries; deep = c.requires.deep; verdict = c.requires.verdict; stands = (c.requires.stands.0, c.requires.stands.1, shaped_part g.K.Validate.shape (entry_of c.entry-item.result), c.requires.stands.2 _ here, refl) })))))
 
 pub verdict::verdict_entries-loop-entry-preserved : goal.verdict::verdict_entries-loop-entry-preserved
 verdict::verdict_entries-loop-entry-preserved g t c = record {
@@ -1050,7 +1051,7 @@ verdict::verdict_edge-shared_verdict-requires g t c =
     let count = length c.args.engine.now.nodes.now in
     let needs : edge_needs ns count e s busy ≡ suc (left ns count e.node s busy) = free_case e.guarded (list_any (λ k. k == e.node) busy) (suc (left ns count e.node s busy)) _ 0 c.if-edge.false in
     let free = reaches_numbered g.K.Validate.shape c.args.engine.now.nodes.now e.node (c.is_shared.ensures.closed c.if-is_shared.true) in
-    λ κs h. (lower_shared _ _ t needs c.decreases, (h.0, (h.1.0, (h.1.1.0, (h.1.1.1, record { may = record { known = c.requires.may.known; ranked = c.requires.may.ranked; above = c.requires.may.above; wanted = c.requires.may.wanted; stands = c.requires.may.stands; goes_on = c.requires.may.goes_on }; carries = c.requires.carries; verdict = c.requires.verdict; stands = free })))))
+    λ κs h. (lower_shared _ _ t needs c.decreases, (h.0, (h.1.0, (h.1.1.0, (h.1.1.1, record { may = record { known = c.requires.may.known; ranked = c.requires.may.ranked; above = c.requires.may.above; wanted = c.requires.may.wanted; stands = c.requires.may.stands; goes_on = c.requires.may.goes_on }; carries = c.requires.carries; deep = c.depth_below-depth.ensures.deeper c.requires.deep ∙ ap held (sym c.across-whole.ensures.edges); verdict = c.requires.verdict; stands = free })))))
 
 pub verdict::verdict_edge-returns-then-is_shared : goal.verdict::verdict_edge-returns-then-is_shared
 verdict::verdict_edge-returns-then-is_shared g t c = record {
@@ -1096,7 +1097,7 @@ verdict::shared_verdict-verdict_node-requires g t c =
     let right' = right_same set layout c0 c1 (ap (λ (z : Context). z.remembered) same) (ap (λ (z : Context). z.verdicts) same) right in
     let root = ap (λ (z : Context). z.root) same in
     let carries = carries_on c0.root c1.root c.numbered_place-place.result root (c.numbered_place-place.ensures.carries c0 c.in_ok-pair.ensures.numbered) in
-    λ κs h. (lower_same _ _ t 11 0 l c.decreases, (h.0, (h.1.0, (h.1.1.0, (h.1.1.1, record { may = record { known = c.requires.may.known; ranked = c.requires.may.ranked; above = deeper; wanted = c.requires.may.wanted; stands = stands_at c0.root _ q _ root there c.requires.may.stands; goes_on = (layout, laid', right') }; carries = carries; verdict = c.requires.verdict; stands = tt })))))
+    λ κs h. (lower_same _ _ t 11 0 l c.decreases, (h.0, (h.1.0, (h.1.1.0, (h.1.1.1, record { may = record { known = c.requires.may.known; ranked = c.requires.may.ranked; above = deeper; wanted = c.requires.may.wanted; stands = stands_at c0.root _ q _ root there c.requires.may.stands; goes_on = (layout, laid', right') }; carries = carries; deep = c.requires.deep; verdict = c.requires.verdict; stands = tt })))))
 
 pub verdict::shared_verdict-returns-in-Some : goal.verdict::shared_verdict-returns-in-Some
 verdict::shared_verdict-returns-in-Some g t c =
@@ -1367,7 +1368,7 @@ verdict::guarded_verdict-verdict_node-requires g t c =
     let right' = right_same set layout c.args.context.now c.start_ref_visit-mark.new.self met read right in
     let root = ap (λ (z : Context). z.root) c.start_ref_visit-mark.ensures.counted ∙ c.enter.ensures.frame.root ∙ ap (λ (z : Context). z.root) c.in_ok-pair.ensures.unchanged in
     let carries = carries_on c.args.context.now.root c.start_ref_visit-mark.new.self.root c.numbered_place-place.result root (c.numbered_place-place.ensures.carries c.args.context.now c.in_ok-pair.ensures.numbered) in
-    λ κs h. (lower_entered _ _ _ t l needs c.decreases, (h.0, (h.1.0, (h.1.1.0, (h.1.1.1, record { may = record { known = c.requires.may.known; ranked = c.requires.may.ranked; above = deeper; wanted = c.requires.may.wanted; stands = stands_at c.args.context.now.root _ (asking c.args.question.now) _ root there c.requires.may.stands; goes_on = (layout, laid', right') }; carries = carries; verdict = c.requires.verdict; stands = tt })))))
+    λ κs h. (lower_entered _ _ _ t l needs c.decreases, (h.0, (h.1.0, (h.1.1.0, (h.1.1.1, record { may = record { known = c.requires.may.known; ranked = c.requires.may.ranked; above = deeper; wanted = c.requires.may.wanted; stands = stands_at c.args.context.now.root _ (asking c.args.question.now) _ root there c.requires.may.stands; goes_on = (layout, laid', right') }; carries = carries; deep = c.depth_below-depth.ensures.deeper c.requires.deep ∙ ap held (sym c.across-whole.ensures.edges); verdict = c.requires.verdict; stands = tt })))))
 
 pub verdict_turns::keyword_verdict-take_turns-turned-requires : goal.verdict_turns::keyword_verdict-take_turns-turned-requires
 verdict_turns::keyword_verdict-take_turns-turned-requires g t c =
@@ -1379,7 +1380,7 @@ verdict_turns::keyword_verdict-take_turns-turned-requires g t c =
     = λ texts. ap ((g.K.Validate.words texts).begin m s) c.requires.verdict ∙ c.in_ok-run.ensures.begins texts ∙ ap (λ a. (c.in_ok-run.run', a)) (sym (c.in_ok-answer.ensures.fresh texts)) in
     let kept = c.set_aside-aside.ensures.frame.in_progress in
     let l = ap (λ es. left ns (length c.args.engine.now.nodes.now) c.args.node.0 s (busy_at p es)) kept in
-    λ κs h. (lower_same _ _ t 4 0 l c.decreases, (h.0, (h.1.0, (h.1.1.0, (h.1.1.1, (record { may = record { known = c.requires.may.known; ranked = c.requires.may.ranked; above = subst (NoDeeper p) (sym kept) c.requires.may.above; wanted = c.requires.may.wanted; stands = stands_on c.args.context.now.root _ (asking c.args.question.now) c.set_aside-aside.ensures.frame.root c.requires.may.stands; goes_on = (c.requires.may.goes_on.0, c.requires.may.goes_on.1, right_same (setting g.K.Validate.words g.K.Validate.is_whole g.K.Validate.shape g.M.Matcher.matching c.args.engine.now) c.requires.may.goes_on.0 c.args.context.now c.set_aside-aside.new.self c.set_aside-aside.ensures.frame.remembered c.set_aside-aside.ensures.frame.verdicts c.requires.may.goes_on.2) }; carries = carries_on c.args.context.now.root _ c.args.question.now.place.now c.set_aside-aside.ensures.frame.root c.requires.carries; verdict = c.requires.verdict; stands = c.requires.stands }, (begun, c.set_aside-aside.ensures.none)))))))
+    λ κs h. (lower_same _ _ t 4 0 l c.decreases, (h.0, (h.1.0, (h.1.1.0, (h.1.1.1, (record { may = record { known = c.requires.may.known; ranked = c.requires.may.ranked; above = subst (NoDeeper p) (sym kept) c.requires.may.above; wanted = c.requires.may.wanted; stands = stands_on c.args.context.now.root _ (asking c.args.question.now) c.set_aside-aside.ensures.frame.root c.requires.may.stands; goes_on = (c.requires.may.goes_on.0, c.requires.may.goes_on.1, right_same (setting g.K.Validate.words g.K.Validate.is_whole g.K.Validate.shape g.M.Matcher.matching c.args.engine.now) c.requires.may.goes_on.0 c.args.context.now c.set_aside-aside.new.self c.set_aside-aside.ensures.frame.remembered c.set_aside-aside.ensures.frame.verdicts c.requires.may.goes_on.2) }; carries = carries_on c.args.context.now.root _ c.args.question.now.place.now c.set_aside-aside.ensures.frame.root c.requires.carries; deep = c.requires.deep; verdict = c.requires.verdict; stands = c.requires.stands }, (begun, c.set_aside-aside.ensures.none)))))))
 
 pub verdict_turns::keyword_verdict-returns-in-Ok : goal.verdict_turns::keyword_verdict-returns-in-Ok
 verdict_turns::keyword_verdict-returns-in-Ok g t c = record {
@@ -1462,7 +1463,7 @@ verdict_turns::take_turns-verdict_child-requires g t c =
     let l = ap (λ es. left ns (length c.args.engine.now.nodes.now) c.args.node.0 s (busy_at p es)) kept in
     let q : Question = record { child = c.in-Ask.child; below = below_of c.in-Ask.below } in
     let there = asks_there (g.K.Validate.words false) m (g.K.Validate.absorbed m) (g.K.Validate.remaining m) (g.K.Validate.can_be false m) (g.K.Validate.ends false m) (g.K.Validate.fits false m) (g.met.K.Validate.turn_laws false m) s (c.turns.run, answer_of false c.turns.answer) told q (mode_of c.in-Ask.wanted) c.turns.invariant.can ((g.met.K.Validate.function_laws false m).present s) step in
-    λ κs h. (lower_same _ _ t 2 1 l c.decreases, (h.0, (h.1.0, (h.1.1.0, (h.1.1.1, record { may = record { known = c.requires.asked.may.known; ranked = c.requires.asked.may.ranked; above = subst (NoDeeper p) (sym kept) c.requires.asked.may.above; wanted = c.requires.asked.may.wanted; stands = stands_on c.args.context.now.root _ (asking c.args.question.now) c.turns.invariant.root c.requires.asked.may.stands; goes_on = (c.requires.asked.may.goes_on.0, c.requires.asked.may.goes_on.1, c.turns.invariant.stays c.requires.asked.may.goes_on.0 c.requires.asked.may.goes_on.1 c.requires.asked.may.goes_on.2) }; carries = carries_on c.args.context.now.root _ c.args.question.now.place.now c.turns.invariant.root c.requires.asked.carries; verdict = c.requires.asked.verdict; stands = (keyword_children ns c.args.node.0 m es c.requires.asked.stands, there) })))))
+    λ κs h. (lower_same _ _ t 2 1 l c.decreases, (h.0, (h.1.0, (h.1.1.0, (h.1.1.1, record { may = record { known = c.requires.asked.may.known; ranked = c.requires.asked.may.ranked; above = subst (NoDeeper p) (sym kept) c.requires.asked.may.above; wanted = c.requires.asked.may.wanted; stands = stands_on c.args.context.now.root _ (asking c.args.question.now) c.turns.invariant.root c.requires.asked.may.stands; goes_on = (c.requires.asked.may.goes_on.0, c.requires.asked.may.goes_on.1, c.turns.invariant.stays c.requires.asked.may.goes_on.0 c.requires.asked.may.goes_on.1 c.requires.asked.may.goes_on.2) }; carries = carries_on c.args.context.now.root _ c.args.question.now.place.now c.turns.invariant.root c.requires.asked.carries; deep = c.requires.asked.deep; verdict = c.requires.asked.verdict; stands = (keyword_children ns c.args.node.0 m es c.requires.asked.stands, there) })))))
 
 pub verdict_turns::take_turns-returns-in-Done : goal.verdict_turns::take_turns-returns-in-Done
 verdict_turns::take_turns-returns-in-Done g t c = record {

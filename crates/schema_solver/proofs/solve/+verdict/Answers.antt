@@ -40,6 +40,7 @@ use Rattle.schema_solver_state.specs.SolverPairs.{IsNumbered, place_of}
 use Rattle.schema_run_steps.specs.VerdictRuns.{told_reply}
 use Rattle.schema_solver.proofs.Asking.{edge_among, may_cross, may_go_below}
 use Rattle.schema_solver.proofs.Crossing.{apart_mark, at_pair, cut_guards, entry_accepts, entry_refuses, last_says, rest_says, falls_across, falls_across_below, falls_entered, needs_of_cut, needs_of_free, pair_new, pair_ran, ran_kept, says_at_once, solvable_here, told_accepts, told_refuses}
+use Rattle.schema_solver.proofs.Depths.{deep_begun, deep_below, deep_still}
 use Rattle.schema_solver.proofs.Going.{goes_below, goes_none, goes_on, may_after}
 use Rattle.schema_solver.proofs.PairSteps.{begun_may, within_begun}
 use Rattle.schema_solver.specs.ToldAtOnce.{waiting}
@@ -50,7 +51,7 @@ use Rattle.schema_run_steps.proofs.KeywordTurns.{asks_there, can_after, falls_tu
 use Rattle.schema_solver.proofs.Turned.{asked_verdict, asks_begun, asks_on, begun_with, can_begun, carries_on, goes_marked, leads_asked, leads_begun, leads_ended, leads_marked, leads_matched, leads_told, leads_unmarked, says_after, stepped_by, turned_by}
 use Rattle.schema_traits.proofs.AnswersSay.{present_there, says_by_questions}
 use Rattle.schema_solver.proofs.ByQuestions.{match_says, question_ends, question_goes_on, questions_begin, questions_end}
-use Rattle.schema_solver.proofs.Stopping.{solved_none, stops_begun, stops_for_memory, stops_full, stops_here, stops_leaning, stops_on, stops_still, turned_stops}
+use Rattle.schema_solver.proofs.Stopping.{solved_none, stops_begun, stops_deep, stops_for_memory, stops_full, stops_here, stops_leaning, stops_on, stops_still, turned_stops}
 use Rattle.schema_solver.proofs.Telling.{ends_after, goes_on_after, leans_once, solved_at}
 use Rattle.schema_solver.specs.declared.question.Stopped.TheVariants.{Limit, OutOfMemory}
 use Rattle.schema_solver.proofs.solve.+verdict.Goals as goal
@@ -140,7 +141,7 @@ edges::solve_edge-solve_pair-requires g t c =
       | edges::solve_edge-then-edge-via-then-edge w ↦ or_left _ _ w.if-edge.true
       | edges::solve_edge-then-edge-via-else-edge+then-not-is_followed w ↦ or_right e.guarded _ (ap not (sym w.is_followed.ensures.followed ∙ w.if-not-is_followed.true))
     ] in
-    λ κs h. (lower_pair _ _ t (needs_of_cut ns count (is_cut (is_followed_in c.args.engine.now.followed.now)) e s (busy_at p old.in_progress) cut) c.decreases, (h.0, (h.1.0, (h.1.1.0, (h.1.1.1, record { may = c.requires.may; carries = c.requires.carries; stands = edge_among set e c.requires.stands cut })))))
+    λ κs h. (lower_pair _ _ t (needs_of_cut ns count (is_cut (is_followed_in c.args.engine.now.followed.now)) e s (busy_at p old.in_progress) cut) c.decreases, (h.0, (h.1.0, (h.1.1.0, (h.1.1.1, record { may = c.requires.may; deep = c.requires.deep; carries = c.requires.carries; stands = edge_among set e c.requires.stands cut })))))
 
 pub edges::solve_edge-returns-then-edge : goal.edges::solve_edge-returns-then-edge
 edges::solve_edge-returns-then-edge g t c =
@@ -174,6 +175,13 @@ edges::solve_edge-returns g t c =
       stops = c.solve_node.ensures.stops;
     }
 
+pub edges::solve_edge-returns-then-not-has_room : goal.edges::solve_edge-returns-then-not-has_room
+edges::solve_edge-returns-then-not-has_room g t c =
+    let set = solver_by g.K.Validate g.M.Matcher c.args.engine.now in
+    let says = g.K.Validate.says_monotone in
+    let old = c.args.context.now in
+    rw c.stopped.ensures.told (solved_none set says (steps_to c.args.question.now.place.now) old old _ _ (stops_deep set says old))
+
 pub edges::solve_edge-solve_node-requires : goal.edges::solve_edge-solve_node-requires
 edges::solve_edge-solve_node-requires g t c =
     let set = solver_by g.K.Validate g.M.Matcher c.args.engine.now in
@@ -185,7 +193,7 @@ edges::solve_edge-solve_node-requires g t c =
     let count = length c.args.engine.now.nodes.now in
     let settled = sym c.is_followed.ensures.followed in
     let free : is_cut (is_followed_in c.args.engine.now.followed.now) e ≡ false = ap₂ (λ x y. x || not y) c.if-edge.false (settled ∙ c.if-not-is_followed.false) in
-    λ κs h. (lower_free _ _ t (needs_of_free ns count (is_cut (is_followed_in c.args.engine.now.followed.now)) e s (busy_at p old.in_progress) free) c.decreases, (h.0, (h.1.0, (h.1.1.0, (h.1.1.1, record { may = c.requires.may; carries = c.requires.carries; stands = tt })))))
+    λ κs h. (lower_free _ _ t (needs_of_free ns count (is_cut (is_followed_in c.args.engine.now.followed.now)) e s (busy_at p old.in_progress) free) c.decreases, (h.0, (h.1.0, (h.1.1.0, (h.1.1.1, (record { may = c.requires.may; deep = c.requires.deep; carries = c.requires.carries; stands = tt }, c.has_room.ensures.room c.if-not-has_room.false))))))
 
 pub edges::solve_child-solve_edge-requires : goal.edges::solve_child-solve_edge-requires
 edges::solve_child-solve_edge-requires g t c =
@@ -199,7 +207,7 @@ edges::solve_child-solve_edge-requires g t c =
     let k = c.requires.stands.0 c.args.child e (sym c.in-Some.ensures.edge) in
     let cut = is_cut (is_followed_in c.args.engine.now.followed.now) in
     let l = falls_across ns count cut (cut_guards (is_followed_in c.args.engine.now.followed.now)) c.requires.may.ranked c.args.node.0 s (busy_at p old.in_progress) e c.requires.may.known k in
-    λ κs h. (lower_across _ _ t 0 l c.decreases, (h.0, (h.1.0, (h.1.1.0, (h.1.1.1, record { may = may_cross set old s p c.args.node.0 e c.requires.may k; carries = c.requires.carries; stands = (c.args.node.0, c.requires.may.known, k) })))))
+    λ κs h. (lower_across _ _ t 0 l c.decreases, (h.0, (h.1.0, (h.1.1.0, (h.1.1.1, record { may = may_cross set old s p c.args.node.0 e c.requires.may k; deep = deep_below c.args.question.now.depth _ c.args.context.now c.depth_below-depth.ensures.deeper c.requires.deep; carries = c.requires.carries; stands = (c.args.node.0, c.requires.may.known, k) })))))
 
 pub edges::solve_child-solve_edge-requires-in-Some-one_below : goal.edges::solve_child-solve_edge-requires-in-Some-one_below
 edges::solve_child-solve_edge-requires-in-Some-one_below g t c =
@@ -218,7 +226,7 @@ edges::solve_child-solve_edge-requires-in-Some-one_below g t c =
     let none : busy_at q old.in_progress ≡ [] = ap (λ z. busy_at z old.in_progress) c.below-lower.ensures.below ∙ busy-below p step old.in_progress c.requires.may.above in
     let l = falls_across_below ns count cut (cut_guards (is_followed_in c.args.engine.now.followed.now)) c.requires.may.ranked c.args.node.0 s (busy_at p old.in_progress) e c.requires.may.known k inner step (busy_at q old.in_progress) none c.in-Some-one_below.ensures.below.1 in
     let may = subst (λ z. MaySolve set old inner z e.node) (sym c.below-lower.ensures.below) (may_go_below set old s p e.node step inner c.in-Some-one_below.ensures.below.1 (may_cross set old s p c.args.node.0 e c.requires.may k)) in
-    λ κs h. (lower_across _ _ t 0 l c.decreases, (h.0, (h.1.0, (h.1.1.0, (h.1.1.1, record { may = may; carries = c.below-lower.ensures.carries (solver_places old) c.requires.carries; stands = (c.args.node.0, c.requires.may.known, k) })))))
+    λ κs h. (lower_across _ _ t 0 l c.decreases, (h.0, (h.1.0, (h.1.1.0, (h.1.1.1, record { may = may; deep = deep_below c.args.question.now.depth _ c.args.context.now c.depth_below-depth-in-Some-one_below.ensures.deeper c.requires.deep; carries = c.below-lower.ensures.carries (solver_places old) c.requires.carries; stands = (c.args.node.0, c.requires.may.known, k) })))))
 
 pub edges::solve_child-returns-in-None : goal.edges::solve_child-returns-in-None
 edges::solve_child-returns-in-None g t c = rw c.settled.ensures.told (record {
@@ -280,7 +288,7 @@ entries::solve_left-solve_form-told-requires g t c =
     let went = c.loop-entry.invariant.goes in
     let l = ap (λ es. left ns (length c.args.engine.now.nodes.now) c.args.node.0 s (busy_at p es)) went.in_progress in
     let here = part_at entry_of (shaped_part g.K.Validate.shape) c.args.entries.now c.loop-entry.entry-index c.entry-item.result c.loop-entry-test.true c.entry-item.is in
-    λ κs h. (lower_same _ _ t 8 0 l c.decreases, (h.0, (h.1.0, (h.1.1.0, (h.1.1.1, record { may = may_after set p old c.loop-entry.context s c.args.node.0 c.requires.may went; carries = carries_on old c.loop-entry.context c.args.question.now.place.now went.root c.requires.carries; stands = (c.requires.stands.0, c.requires.stands.1, shaped_part g.K.Validate.shape (entry_of c.entry-item.result), c.requires.stands.2 _ here, refl) })))))
+    λ κs h. (lower_same _ _ t 8 0 l c.decreases, (h.0, (h.1.0, (h.1.1.0, (h.1.1.1, record { may = may_after set p old c.loop-entry.context s c.args.node.0 c.requires.may went; deep = deep_still c.args.question.now.depth old c.loop-entry.context went.in_progress c.requires.deep; carries = carries_on old c.loop-entry.context c.args.question.now.place.now went.root c.requires.carries; stands = (c.requires.stands.0, c.requires.stands.1, shaped_part g.K.Validate.shape (entry_of c.entry-item.result), c.requires.stands.2 _ here, refl) })))))
 
 pub entries::solve_left-returns-then-ends : goal.entries::solve_left-returns-then-ends
 entries::solve_left-returns-then-ends g t c =
@@ -368,18 +376,18 @@ entries::solve_form-solve_edge-requires g t c =
     let k = reference_edge ns c.args.node.0 e (rw c.in-Reference.is at c.requires.stands) in
     let cut = is_cut (is_followed_in c.args.engine.now.followed.now) in
     let l = falls_across ns count cut (cut_guards (is_followed_in c.args.engine.now.followed.now)) c.requires.may.ranked c.args.node.0 s (busy_at p old.in_progress) e c.requires.may.known k in
-    λ κs h. (lower_across _ _ t 5 l c.decreases, (h.0, (h.1.0, (h.1.1.0, (h.1.1.1, record { may = may_cross set old s p c.args.node.0 e c.requires.may k; carries = c.requires.carries; stands = (c.args.node.0, c.requires.may.known, k) })))))
+    λ κs h. (lower_across _ _ t 5 l c.decreases, (h.0, (h.1.0, (h.1.1.0, (h.1.1.1, record { may = may_cross set old s p c.args.node.0 e c.requires.may k; deep = deep_below c.args.question.now.depth _ c.args.context.now c.depth_below-depth.ensures.deeper c.requires.deep; carries = c.requires.carries; stands = (c.args.node.0, c.requires.may.known, k) })))))
 
 pub entries::solve_node-solve_entries-requires : goal.entries::solve_node-solve_entries-requires
 entries::solve_node-solve_entries-requires g t c =
     let plan = plan_is g.K.Validate.shape c.args.engine.now.nodes.now c.args.node.0 (node_of c.node.result.now) _ c.node.ensures.found (ap (option_map plan_of) c.in-Some.is ∙ ap (λ f. Some (plan_of f)) c.in-Keywords.is) in
-    λ κs h. (lower_same _ _ t 10 0 refl c.decreases, (h.0, (h.1.0, (h.1.1.0, (h.1.1.1, record { may = c.requires.may; carries = c.requires.carries; stands = rw c.as_slice.ensures.value (_, plan, λ y k. k) })))))
+    λ κs h. (lower_same _ _ t 10 0 refl c.decreases, (h.0, (h.1.0, (h.1.1.0, (h.1.1.1, record { may = c.requires.can_ask.may; deep = c.requires.can_ask.deep; carries = c.requires.can_ask.carries; stands = rw c.as_slice.ensures.value (_, plan, λ y k. k) })))))
 
 pub entries::solve_node-returns-in-None : goal.entries::solve_node-returns-in-None
 entries::solve_node-returns-in-None g t c = rw c.settled.ensures.told (record {
   goes =
       let set = solver_by g.K.Validate g.M.Matcher c.args.engine.now in
-      goes_none set (steps_to c.args.question.now.place.now) c.args.context.now c.requires.may.sound;
+      goes_none set (steps_to c.args.question.now.place.now) c.args.context.now c.requires.can_ask.may.sound;
   marking = search rules;
   says = search rules;
   stops = search rules;
@@ -389,7 +397,7 @@ pub entries::solve_node-returns-in-Always : goal.entries::solve_node-returns-in-
 entries::solve_node-returns-in-Always g t c = rw c.settled-in-Always.ensures.told (record {
   goes =
       let set = solver_by g.K.Validate g.M.Matcher c.args.engine.now in
-      goes_none set (steps_to c.args.question.now.place.now) c.args.context.now c.requires.may.sound;
+      goes_none set (steps_to c.args.question.now.place.now) c.args.context.now c.requires.can_ask.may.sound;
   marking = search rules;
   says = search rules;
   stops = search rules;
@@ -399,7 +407,7 @@ pub entries::solve_node-returns-in-Never : goal.entries::solve_node-returns-in-N
 entries::solve_node-returns-in-Never g t c = rw c.settled-in-Never.ensures.told (record {
   goes =
       let set = solver_by g.K.Validate g.M.Matcher c.args.engine.now in
-      goes_none set (steps_to c.args.question.now.place.now) c.args.context.now c.requires.may.sound;
+      goes_none set (steps_to c.args.question.now.place.now) c.args.context.now c.requires.can_ask.may.sound;
   marking = search rules;
   says = search rules;
   stops = search rules;
@@ -417,7 +425,7 @@ entries::solve_node-returns-in-Keywords g t c = record {
       let laws : (texts : Bool) → EachKeeps (g.K.Validate.words texts) = λ texts m. (g.K.Validate.absorbed m, keeps_of_turns (g.K.Validate.words texts) m (g.K.Validate.absorbed m) (g.K.Validate.remaining m) (g.K.Validate.can_be texts m) (g.K.Validate.ends texts m) (g.K.Validate.fits texts m) (g.met.K.Validate.turn_laws texts m) (g.met.K.Validate.function_laws texts m)) in
       let plan = plan_is g.K.Validate.shape c.args.engine.now.nodes.now c.args.node.0 (node_of c.node.result.now) _ c.node.ensures.found (ap (option_map plan_of) c.in-Some.is ∙ ap (λ f. Some (plan_of f)) c.in-Keywords.is) in
       let new = c.solve_entries.new.context in
-      if_ok_mono c.solve_entries.result _ _ (λ b says texts tells. node_says_parts (solving_in set (view new.root) texts) (found_of new) p (solvable_here set laws old s p c.args.node.0 c.requires.may (view new.root) texts) c.args.node.0 c.requires.may.known _ b.valid b.leans plan (says texts tells))
+      if_ok_mono c.solve_entries.result _ _ (λ b says texts tells. node_says_parts (solving_in set (view new.root) texts) (found_of new) p (solvable_here set laws old s p c.args.node.0 c.requires.can_ask.may (view new.root) texts) c.args.node.0 c.requires.can_ask.may.known _ b.valid b.leans plan (says texts tells))
       (rw c.as_slice.ensures.value at c.solve_entries.ensures.says);
   stops = search rules;
 }
@@ -436,7 +444,7 @@ asking::solve_there-solve_edge-requires g t c =
     let k = c.requires.may_ask.stands.0 c.args.asked.child e (sym c.in-Some.ensures.edge) in
     let cut = is_cut (is_followed_in c.args.engine.now.followed.now) in
     let l = falls_across ns count cut (cut_guards (is_followed_in c.args.engine.now.followed.now)) c.requires.may_ask.may.ranked c.args.node.0 s (busy_at p old.in_progress) e c.requires.may_ask.may.known k in
-    λ κs h. (lower_across _ _ t 0 l c.decreases, (h.0, (h.1.0, (h.1.1.0, (h.1.1.1, record { may = may_cross set old s p c.args.node.0 e c.requires.may_ask.may k; carries = c.requires.may_ask.carries; stands = (c.args.node.0, c.requires.may_ask.may.known, k) })))))
+    λ κs h. (lower_across _ _ t 0 l c.decreases, (h.0, (h.1.0, (h.1.1.0, (h.1.1.1, record { may = may_cross set old s p c.args.node.0 e c.requires.may_ask.may k; deep = deep_below c.args.question.now.depth _ c.args.context.now c.depth_below-depth.ensures.deeper c.requires.may_ask.deep; carries = c.requires.may_ask.carries; stands = (c.args.node.0, c.requires.may_ask.may.known, k) })))))
 
 pub asking::solve_there-solve_edge-requires-in-Some-below : goal.asking::solve_there-solve_edge-requires-in-Some-below
 asking::solve_there-solve_edge-requires-in-Some-below g t c =
@@ -456,7 +464,7 @@ asking::solve_there-solve_edge-requires-in-Some-below g t c =
     let none : busy_at q old.in_progress ≡ [] = ap (λ z. busy_at z old.in_progress) c.below-lower.ensures.below ∙ busy-below p step old.in_progress c.requires.may_ask.may.above in
     let l = falls_across_below ns count cut (cut_guards (is_followed_in c.args.engine.now.followed.now)) c.requires.may_ask.may.ranked c.args.node.0 s (busy_at p old.in_progress) e c.requires.may_ask.may.known k inner step (busy_at q old.in_progress) none leads in
     let may = subst (λ z. MaySolve set old inner z e.node) (sym c.below-lower.ensures.below) (may_go_below set old s p e.node step inner leads (may_cross set old s p c.args.node.0 e c.requires.may_ask.may k)) in
-    λ κs h. (lower_across _ _ t 0 l c.decreases, (h.0, (h.1.0, (h.1.1.0, (h.1.1.1, record { may = may; carries = c.below-lower.ensures.carries (solver_places old) c.requires.may_ask.carries; stands = (c.args.node.0, c.requires.may_ask.may.known, k) })))))
+    λ κs h. (lower_across _ _ t 0 l c.decreases, (h.0, (h.1.0, (h.1.1.0, (h.1.1.1, record { may = may; deep = deep_below c.args.question.now.depth _ c.args.context.now c.depth_below-depth-in-Some-below.ensures.deeper c.requires.may_ask.deep; carries = c.below-lower.ensures.carries (solver_places old) c.requires.may_ask.carries; stands = (c.args.node.0, c.requires.may_ask.may.known, k) })))))
 
 pub asking::solve_there-returns-in-None : goal.asking::solve_there-returns-in-None
 asking::solve_there-returns-in-None g t c = rw c.settled.ensures.told (record {
@@ -520,7 +528,7 @@ turns::solver_answer-solver_turns-turned-requires g t c =
     let e = c.set_aside-aside.ensures.frame in
     let went = goes_marked set p c.args.context.now aside c.requires.may.sound e.root e.in_progress e.assumed e.verdicts e.begun in
     let l = ap (λ es. left (numbered g.K.Validate.shape c.args.engine.now.nodes.now) (length c.args.engine.now.nodes.now) c.args.node.0 s (busy_at p es)) e.in_progress in
-    λ κs h. (lower_same _ _ t 4 0 l c.decreases, (h.0, (h.1.0, (h.1.1.0, (h.1.1.1, (record { may = may_after set p c.args.context.now aside s c.args.node.0 c.requires.may went; carries = carries_on c.args.context.now aside c.args.question.now.place.now e.root c.requires.carries; stands = c.requires.stands }, (begun, c.set_aside-aside.ensures.none)))))))
+    λ κs h. (lower_same _ _ t 4 0 l c.decreases, (h.0, (h.1.0, (h.1.1.0, (h.1.1.1, (record { may = may_after set p c.args.context.now aside s c.args.node.0 c.requires.may went; deep = deep_still c.args.question.now.depth c.args.context.now aside went.in_progress c.requires.deep; carries = carries_on c.args.context.now aside c.args.question.now.place.now e.root c.requires.carries; stands = c.requires.stands }, (begun, c.set_aside-aside.ensures.none)))))))
 
 pub turns::solver_answer-returns-in-Ok-turned : goal.turns::solver_answer-returns-in-Ok-turned
 turns::solver_answer-returns-in-Ok-turned g t c = record {
@@ -624,7 +632,7 @@ turns::solver_turns-solve_child-requires g t c =
     let ns = numbered g.K.Validate.shape c.args.engine.now.nodes.now in
     let l = ap (λ es. left ns (length c.args.engine.now.nodes.now) c.args.node.0 s (busy_at p es)) went.in_progress in
     let there = asks_there (g.K.Validate.words false) m (g.K.Validate.absorbed m) (g.K.Validate.remaining m) (g.K.Validate.can_be false m) (g.K.Validate.ends false m) (g.K.Validate.fits false m) (g.met.K.Validate.turn_laws false m) s (c.turns.run, answer_of false c.turns.answer) told q (mode_of c.in-Ask.wanted) c.turns.invariant.can ((g.met.K.Validate.function_laws false m).present s) step in
-    λ κs h. (lower_same _ _ t 3 0 l c.decreases, (h.0, (h.1.0, (h.1.1.0, (h.1.1.1, record { may = may_after set p c.args.context.now c.turns.context s c.args.node.0 c.requires.may_ask.may went; carries = carries_on c.args.context.now c.turns.context c.args.question.now.place.now went.root c.requires.may_ask.carries; stands = (keyword_children ns c.args.node.0 m es c.requires.may_ask.stands, there) })))))
+    λ κs h. (lower_same _ _ t 3 0 l c.decreases, (h.0, (h.1.0, (h.1.1.0, (h.1.1.1, record { may = may_after set p c.args.context.now c.turns.context s c.args.node.0 c.requires.may_ask.may went; deep = deep_still c.args.question.now.depth c.args.context.now c.turns.context went.in_progress c.requires.may_ask.deep; carries = carries_on c.args.context.now c.turns.context c.args.question.now.place.now went.root c.requires.may_ask.carries; stands = (keyword_children ns c.args.node.0 m es c.requires.may_ask.stands, there) })))))
 
 pub turns::solver_turns-finished_match-requires : goal.turns::solver_turns-finished_match-requires
 turns::solver_turns-finished_match-requires g t c = record { finishes = c.requires.may_ask.may.finishes }
@@ -903,7 +911,7 @@ asking::solve_counted-solve_there-told-requires g t c =
     let went = c.loop-asked.invariant.goes in
     let l = ap (λ es. left ns (length c.args.engine.now.nodes.now) c.args.node.0 s (busy_at p es)) went.in_progress in
     let there = subst (λ z. StandsThere z c.in-Some.asked) c.loop-asked.invariant.there c.in-Some.ensures.there in
-    λ κs h. (lower_same _ _ t 3 0 l c.decreases, (h.0, (h.1.0, (h.1.1.0, (h.1.1.1, (record { may = may_after set p c.args.context.now c.loop-asked.context s c.args.node.0 c.requires.may_ask.may went; carries = carries_on c.args.context.now c.loop-asked.context c.args.question.now.place.now went.root c.requires.may_ask.carries; stands = (keyword_children ns c.args.node.0 m es c.requires.may_ask.stands, present_there s c.in-Some.asked there) }, there))))))
+    λ κs h. (lower_same _ _ t 3 0 l c.decreases, (h.0, (h.1.0, (h.1.1.0, (h.1.1.1, (record { may = may_after set p c.args.context.now c.loop-asked.context s c.args.node.0 c.requires.may_ask.may went; deep = deep_still c.args.question.now.depth c.args.context.now c.loop-asked.context went.in_progress c.requires.may_ask.deep; carries = carries_on c.args.context.now c.loop-asked.context c.args.question.now.place.now went.root c.requires.may_ask.carries; stands = (keyword_children ns c.args.node.0 m es c.requires.may_ask.stands, present_there s c.in-Some.asked there) }, there))))))
 
 pub asking::solve_counted-returns-then-ends : goal.asking::solve_counted-returns-then-ends
 asking::solve_counted-returns-then-ends g t c =
@@ -988,7 +996,7 @@ asking::solve_members-solve_there-told-requires g t c =
     let went = c.loop-asked.invariant.goes in
     let l = ap (λ es. left ns (length c.args.engine.now.nodes.now) c.args.node.0 s (busy_at p es)) went.in_progress in
     let there = subst (λ z. StandsThere z c.in-Some.asked) c.loop-asked.invariant.there c.in-Some.ensures.there in
-    λ κs h. (lower_same _ _ t 3 0 l c.decreases, (h.0, (h.1.0, (h.1.1.0, (h.1.1.1, (record { may = may_after set p c.args.context.now c.loop-asked.context s c.args.node.0 c.requires.may_ask.may went; carries = carries_on c.args.context.now c.loop-asked.context c.args.question.now.place.now went.root c.requires.may_ask.carries; stands = (subst (λ z. HasChildren ns c.args.node.0 (map (option_map edge_of) z)) (sym c.as_slice-kept.ensures.value) (keyword_children ns c.args.node.0 m es c.requires.may_ask.stands), present_there s c.in-Some.asked there) }, there))))))
+    λ κs h. (lower_same _ _ t 3 0 l c.decreases, (h.0, (h.1.0, (h.1.1.0, (h.1.1.1, (record { may = may_after set p c.args.context.now c.loop-asked.context s c.args.node.0 c.requires.may_ask.may went; deep = deep_still c.args.question.now.depth c.args.context.now c.loop-asked.context went.in_progress c.requires.may_ask.deep; carries = carries_on c.args.context.now c.loop-asked.context c.args.question.now.place.now went.root c.requires.may_ask.carries; stands = (subst (λ z. HasChildren ns c.args.node.0 (map (option_map edge_of) z)) (sym c.as_slice-kept.ensures.value) (keyword_children ns c.args.node.0 m es c.requires.may_ask.stands), present_there s c.in-Some.asked there) }, there))))))
 
 pub asking::solve_members-returns-then-ends : goal.asking::solve_members-returns-then-ends
 asking::solve_members-returns-then-ends g t c =
@@ -1073,7 +1081,7 @@ asking::solve_names-solve_there-told-requires g t c =
     let went = c.loop-asked.invariant.goes in
     let l = ap (λ es. left ns (length c.args.engine.now.nodes.now) c.args.node.0 s (busy_at p es)) went.in_progress in
     let there = subst (λ z. StandsThere z c.in-Some.asked) c.loop-asked.invariant.there c.in-Some.ensures.there in
-    λ κs h. (lower_same _ _ t 3 0 l c.decreases, (h.0, (h.1.0, (h.1.1.0, (h.1.1.1, (record { may = may_after set p c.args.context.now c.loop-asked.context s c.args.node.0 c.requires.may_ask.may went; carries = carries_on c.args.context.now c.loop-asked.context c.args.question.now.place.now went.root c.requires.may_ask.carries; stands = (keyword_children ns c.args.node.0 m es c.requires.may_ask.stands, present_there s c.in-Some.asked there) }, there))))))
+    λ κs h. (lower_same _ _ t 3 0 l c.decreases, (h.0, (h.1.0, (h.1.1.0, (h.1.1.1, (record { may = may_after set p c.args.context.now c.loop-asked.context s c.args.node.0 c.requires.may_ask.may went; deep = deep_still c.args.question.now.depth c.args.context.now c.loop-asked.context went.in_progress c.requires.may_ask.deep; carries = carries_on c.args.context.now c.loop-asked.context c.args.question.now.place.now went.root c.requires.may_ask.carries; stands = (keyword_children ns c.args.node.0 m es c.requires.may_ask.stands, present_there s c.in-Some.asked there) }, there))))))
 
 pub asking::solve_names-returns-then-ends : goal.asking::solve_names-returns-then-ends
 asking::solve_names-returns-then-ends g t c =
@@ -1150,7 +1158,7 @@ edges::begin_pair-solve_node_apart-requires g t c =
     let may = subst (λ z. MaySolve set c.enter.new.context s z c.args.node.0) (sym there) (begun_may set laws old c.enter.new.context s p c.args.node.0 c.requires.may_ask.may new begins) in
     let falls = falls_entered set old s p c.args.node.0 c.requires.may_ask.may c.enter.new.context begins idle ∙ ap (λ z. suc (left ns (length c.args.engine.now.nodes.now) c.args.node.0 s (busy_at z c.enter.new.context.in_progress))) (sym there) in
     let carries : CarriesItsNumber (solver_places c.enter.new.context) c.numbered_place-place.result = subst (λ v. CarriesItsNumber (root_places v) c.numbered_place-place.result) (sym begins.root) (c.numbered_place-place.ensures.carries old c.requires.numbered) in
-    λ κs h. (lower_entered _ _ t falls c.decreases, (h.0, (h.1.0, (h.1.1.0, (h.1.1.1, record { may = may; carries = carries; stands = tt })))))
+    λ κs h. (lower_entered _ _ t falls c.decreases, (h.0, (h.1.0, (h.1.1.0, (h.1.1.1, (record { may = may; deep = deep_begun c.args.node.0 p old c.enter.new.context c.args.question.now.depth _ begins c.depth_below-depth.ensures.deeper c.requires.may_ask.deep; carries = carries; stands = tt }, c.has_room.ensures.room c.if-not-has_room.false))))))
 
 pub edges::begin_pair-returns-in-Err : goal.edges::begin_pair-returns-in-Err
 edges::begin_pair-returns-in-Err g t c =
@@ -1168,6 +1176,13 @@ edges::begin_pair-returns-in-Err g t c =
     let few : full.1.0 ≤ old.begun = subst (λ (z : Solver). full.1.0 ≤ z.begun) same full.1.2 in
     let stops = subst (λ z. Stops set says old z Limit) (sym same) (stops_full set says old p i new full.1.0 full.1.1 few) in
     rw c.stopped.ensures.told (solved_none set says p old now _ _ (subst (Stops set says old now) (sym full.0) stops))
+
+pub edges::begin_pair-returns-then-not-has_room : goal.edges::begin_pair-returns-then-not-has_room
+edges::begin_pair-returns-then-not-has_room g t c =
+    let set = solver_by g.K.Validate g.M.Matcher c.args.engine.now in
+    let says = g.K.Validate.says_monotone in
+    let old = c.args.context.now in
+    rw c.stopped-then-not-has_room.ensures.told (solved_none set says (steps_to c.args.question.now.place.now) old old _ _ (stops_deep set says old))
 
 pub edges::begin_pair-returns-in-Err-enter : goal.edges::begin_pair-returns-in-Err-enter
 edges::begin_pair-returns-in-Err-enter g t c =
@@ -1425,7 +1440,7 @@ entries::solve_entries-solve_left-requires g t c =
     let first = c.in-Some-waits.first in
     let l = ap (λ es. left (numbered g.K.Validate.shape c.args.engine.now.nodes.now) (length c.args.engine.now.nodes.now) c.args.node.0 s (busy_at p es)) went.in_progress in
     let all = take_rest entries first in
-    λ κs h. (lower_same _ _ t 9 0 l c.decreases, (h.0, (h.1.0, (h.1.1.0, (h.1.1.1, record { may = may_after set p old here s c.args.node.0 c.requires.may went; carries = carries_on old here c.args.question.now.place.now went.root c.requires.carries; stands = (c.requires.stands.0, c.requires.stands.1, λ y is. c.requires.stands.2 y (part_before entry_of (shaped_part g.K.Validate.shape) entries first y (subst (λ es. Contains (parts es) y) all is))) })))))
+    λ κs h. (lower_same _ _ t 9 0 l c.decreases, (h.0, (h.1.0, (h.1.1.0, (h.1.1.1, record { may = may_after set p old here s c.args.node.0 c.requires.may went; deep = deep_still c.args.question.now.depth old here went.in_progress c.requires.deep; carries = carries_on old here c.args.question.now.place.now went.root c.requires.carries; stands = (c.requires.stands.0, c.requires.stands.1, λ y is. c.requires.stands.2 y (part_before entry_of (shaped_part g.K.Validate.shape) entries first y (subst (λ es. Contains (parts es) y) all is))) })))))
 
 pub entries::solve_entries-returns-in-Some-waits : goal.entries::solve_entries-returns-in-Some-waits
 entries::solve_entries-returns-in-Some-waits g t c =
@@ -1464,7 +1479,7 @@ entries::solve_entries-solve_keyword-requires g t c =
     let l = ap (λ es. left (numbered g.K.Validate.shape c.args.engine.now.nodes.now) (length c.args.engine.now.nodes.now) c.args.node.0 s (busy_at p es)) went.in_progress in
     let since = subst (λ o. IfSome o (λ k. (k < length entries) × InEach set (view here.root) (λ texts w. SaysTheRest w p (found_of here) false (parts entries) (parts (drop k entries))))) c.in-Some-waits-2.is c.loop-place.invariant.since in
     let among = part_at entry_of (shaped_part g.K.Validate.shape) entries first entry since.0 c.index-entries-first.is in
-    λ κs h. (lower_same _ _ t 7 2 l c.decreases, (h.0, (h.1.0, (h.1.1.0, (h.1.1.1, record { may = may_after set p old here s c.args.node.0 c.requires.may went; carries = carries_on old here c.args.question.now.place.now went.root c.requires.carries; stands = (c.requires.stands.0, c.requires.stands.1, shaped_part g.K.Validate.shape (entry_of entry), c.requires.stands.2 _ among, refl) })))))
+    λ κs h. (lower_same _ _ t 7 2 l c.decreases, (h.0, (h.1.0, (h.1.1.0, (h.1.1.1, record { may = may_after set p old here s c.args.node.0 c.requires.may went; deep = deep_still c.args.question.now.depth old here went.in_progress c.requires.deep; carries = carries_on old here c.args.question.now.place.now went.root c.requires.carries; stands = (c.requires.stands.0, c.requires.stands.1, shaped_part g.K.Validate.shape (entry_of entry), c.requires.stands.2 _ among, refl) })))))
 
 pub entries::solve_entries-returns-in-Some-waits-2 : goal.entries::solve_entries-returns-in-Some-waits-2
 entries::solve_entries-returns-in-Some-waits-2 g t c =
@@ -1503,4 +1518,4 @@ entries::solve_keyword-solve_reference-requires g t c =
     let k = reference_edge ns c.args.node.0 e (rw c.in-Reference.is at c.requires.stands) in
     let cut = is_cut (is_followed_in c.args.engine.now.followed.now) in
     let l = falls_across ns count cut (cut_guards (is_followed_in c.args.engine.now.followed.now)) c.requires.may.ranked c.args.node.0 s (busy_at p old.in_progress) e c.requires.may.known k in
-    λ κs h. (lower_reference _ _ t 3 l c.decreases, (h.0, (h.1.0, (h.1.1.0, (h.1.1.1, record { may = may_cross set old s p c.args.node.0 e c.requires.may k; carries = c.requires.carries; stands = (c.args.node.0, c.requires.may.known, k) })))))
+    λ κs h. (lower_reference _ _ t 3 l c.decreases, (h.0, (h.1.0, (h.1.1.0, (h.1.1.1, record { may = may_cross set old s p c.args.node.0 e c.requires.may k; deep = c.requires.deep; carries = c.requires.carries; stands = (c.args.node.0, c.requires.may.known, k) })))))

@@ -1,4 +1,4 @@
-use Rattle.std.proofs.Common.{◌≡◌, ◌∙◌, Bool, [], ap, inr, refl, subst, sym}
+use Rattle.std.proofs.Common.{◌≡◌, ◌∙◌, Bool, [], ap, arith, inl, inr, length, refl, subst, sym}
 use Rattle.std.specs.Prelude.{is_some}
 use Rattle.serde_json.specs.View.{view}
 use Rattle.theory_definitions.specs.Instance.{a_value}
@@ -8,11 +8,11 @@ use Rattle.schema_node_table.proofs.RankedTable.{ranked_table}
 use Rattle.schema_run_steps.specs.EvaluationPlaces.{steps_to}
 use Rattle.theory_fixed_points.specs.Stages.{Tells}
 use Rattle.schema_solver.specs.Asked.{solver_of}
-use Rattle.schema_solver_state.specs.Contexts.{found_of, solver_places}
+use Rattle.schema_solver_state.specs.Contexts.{Solver, found_of, solver_places}
 use Rattle.schema_solver_state.specs.Answering.{fresh}
 use Rattle.schema_solver.specs.Solving.{Goes, InEach, IsLate, MaySolve, StaysWithin}
 use Rattle.schema_solver.proofs.Going.{end_few, end_holds, end_rests, end_says, end_sound, end_within, fresh_may, root_late, root_within}
-use Rattle.schema_solver.proofs.Stopping.{not_leaning}
+use Rattle.schema_solver.proofs.Stopping.{depth_is_no_limit}
 use Rattle.schema_solver.proofs.Telling.{solved_at}
 use Rattle.schema_solver.proofs.solve.solve_root.Goals as goal
 
@@ -25,9 +25,13 @@ solve_node-requires g c =
     let place : steps_to c.given-place.result ≡ [] = c.given-place.ensures.same ∙ c.root-root.ensures.root in
     let s = a_value (view v) in
     record {
-      may = subst (λ p. MaySolve set c.args.context.now s p c.args.node.0) (sym place) (subst (λ z. MaySolve set z s [] c.args.node.0) (sym begins) (fresh_may set v c.args.node.0 c.requires.known ranked c.requires.finishes));
-      carries = c.given-place.ensures.carries (solver_places c.args.context.now);
-      stands = tt;
+      can_ask = record {
+        may = subst (λ p. MaySolve set c.args.context.now s p c.args.node.0) (sym place) (subst (λ z. MaySolve set z s [] c.args.node.0) (sym begins) (fresh_may set v c.args.node.0 c.requires.known ranked c.requires.finishes));
+        carries = c.given-place.ensures.carries (solver_places c.args.context.now);
+        deep = λ _. let none = ap (λ (z : Solver). length z.in_progress) begins in omega (arith, none);
+        stands = tt;
+      };
+      room = c.has_room.ensures.room c.if-not-has_room.false;
     }
 
 pub returns-in-Ok : goal.returns-in-Ok
@@ -67,7 +71,7 @@ returns-in-Leans g c =
     let new = c.solve_node.new.context in
     let stops = (solved_at set g.K.Validate.says_monotone _ c.args.context.now new _ _ _ c.solve_node.ensures (sym c.in-Err.ensures.same)).stops in
     record {
-      exactly = λ each. absurd (not_leaning c.in-Err.stopped (stops.reason each) c.in-Leans.is);
+      exactly = λ each. absurd (stops.reason each c.in-Leans.is);
       says = tt;
       root = tt;
       idle = tt;
@@ -81,8 +85,8 @@ returns-in-Leans g c =
       late = tt;
     }
 
-pub returns : goal.returns
-returns g c =
+pub returns-in-Limit : goal.returns-in-Limit
+returns-in-Limit g c =
     let set = solver_of g.K.Validate.words g.K.Validate.is_whole g.K.Validate.shape g.M.Matcher.matching c.args.engine.now in
     let v = c.args.instance.now in
     let begins : c.args.context.now ≡ fresh v = c.requires.fresh in
@@ -98,7 +102,39 @@ returns g c =
       rests = tt;
       few = tt;
       within = tt;
-      stops = inr refl;
+      stops = inr (inl refl);
       limited = λ is. ap is_some late.limit;
       late = λ is. root_late set v late;
     }
+
+pub returns-then-not-has_room : goal.returns-then-not-has_room
+returns-then-not-has_room g c = record {
+  exactly = λ each. tt;
+  says = tt;
+  root = tt;
+  idle = tt;
+  holds = tt;
+  sound = tt;
+  rests = tt;
+  few = tt;
+  within = tt;
+  stops = inr (inr refl);
+  limited = λ is. absurd (depth_is_no_limit is);
+  late = λ is. absurd (depth_is_no_limit is);
+}
+
+pub returns : goal.returns
+returns g c = record {
+  exactly = λ each. tt;
+  says = tt;
+  root = tt;
+  idle = tt;
+  holds = tt;
+  sound = tt;
+  rests = tt;
+  few = tt;
+  within = tt;
+  stops = inr (inr refl);
+  limited = λ is. absurd (depth_is_no_limit is);
+  late = λ is. absurd (depth_is_no_limit is);
+}

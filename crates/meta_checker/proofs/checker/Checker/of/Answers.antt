@@ -17,4 +17,5 @@ invariant_of-result g c = record {
   inside = c.requires.inside;
   some = c.requires.some;
   unlimited = unlimited_of c.work_limit.result c.work_limit.ensures.work (sym c.is_some.ensures ∙ c.if-is_some.false);
+  shallow = unlimited_of c.depth_limit.result c.depth_limit.ensures.depth (sym c.is_some-2.ensures ∙ c.if-is_some-2.false);
 }

@@ -31,6 +31,7 @@ returns-clause-says g c =
     ((g.met.M.Matcher.cloned c.self.inside.matcher c.in_ok-clone-2.field-0 c.in_ok-clone-2.ensures.cases).0 ∙ ap (λ (p : Program g.row.K.Denot g.row.M.Denot). g.M.Matcher.matching p.matcher) same)
     (ap (λ (p : Program g.row.K.Denot g.row.M.Denot). p.runs) same)
     (ap (λ (p : Program g.row.K.Denot g.row.M.Denot). p.work) same)
+    (ap (λ (p : Program g.row.K.Denot g.row.M.Denot). p.depth) same)
 
 pub returns-clause-answers : goal.returns-clause-answers
 returns-clause-answers g c =
@@ -42,3 +43,4 @@ returns-clause-answers g c =
     ((g.met.M.Matcher.cloned c.self.inside.matcher c.in_ok-clone-2.field-0 c.in_ok-clone-2.ensures.cases).0 ∙ ap (λ (p : Program g.row.K.Denot g.row.M.Denot). g.M.Matcher.matching p.matcher) same)
     (ap (λ (p : Program g.row.K.Denot g.row.M.Denot). p.runs) same)
     (ap (λ (p : Program g.row.K.Denot g.row.M.Denot). p.work) same)
+    (ap (λ (p : Program g.row.K.Denot g.row.M.Denot). p.depth) same)

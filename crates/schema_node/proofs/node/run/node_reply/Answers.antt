@@ -14,7 +14,7 @@ wants_more code.TheVariants.All h e = cc e
 wants_more code.TheVariants.Evaluate h e = cc e
 
 pub run_node-requires : goal.run_node-requires
-run_node-requires g c = record { may = c.requires.may; carries = c.requires.carries; more = wants_more c.args.question.now.mode c.in_default.not-Verdict }
+run_node-requires g c = record { may = c.requires.may_reply.may; carries = c.requires.may_reply.carries; deep = c.requires.may_reply.deep; more = wants_more c.args.question.now.mode c.in_default.not-Verdict }
 
 pub returns-in_default : goal.returns-in_default
 returns-in_default g c = record {

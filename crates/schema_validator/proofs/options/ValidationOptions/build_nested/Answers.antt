@@ -66,6 +66,7 @@ returns-clause-built g c =
       matcher_is = made.matcher;
       runs_are = made.runs ∙ ap (λ (o : Options). o.runs) c.self.view_is;
       work_is = made.work ∙ ap (λ (o : Options). o.work) c.self.view_is;
+      depth_is = made.depth ∙ ap (λ (o : Options). o.depth) c.self.view_is;
     } in
     let keeps : (texts : Bool) → EachKeepsAbsorbing (k.words texts) k.absorbed = λ texts s. keeps_of_turns (k.words texts) s (k.absorbed s) (k.remaining s) (k.can_be texts s) (k.ends texts s) (k.fits texts s) (g.met.K.Validate.turn_laws texts s) (g.met.K.Validate.function_laws texts s) in
     let each_keeps : (texts : Bool) → EachKeeps (k.words texts) = λ texts s. (k.absorbed s, keeps texts s) in

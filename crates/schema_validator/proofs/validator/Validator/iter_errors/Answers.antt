@@ -1,40 +1,39 @@
-use Rattle.std.proofs.Common.{◌∙◌, [], List, ap, subst, sym}
+use Rattle.std.proofs.Common.{◌∙◌, [], List, subst, sym}
 use Rattle.std.specs.Prelude.{All}
 use Rattle.std.proofs.lemmas.List.Elements.{All-cons, All-nil}
 use Rattle.serde_json.specs.View.{view}
 use Rattle.schema_reports.specs.ReportViews.{BorrowsItsPlace}
 use Rattle.schema_reports.specs.declared.reports.ValidationError.{ValidationError}
 use Rattle.theory_definitions.specs.Cover.{iter_errors}
-use Rattle.schema_run_context.specs.Works.{allowed}
 use Rattle.schema_compiled.specs.Stopped.{OnlyTellsLimit}
 use Rattle.schema_compiled.proofs.AtLimits.{stops, tells_borrows, unless}
-use Rattle.schema_compiled.proofs.Solved.{not_stopped}
 use Rattle.schema_compiled.proofs.Taken.{runs_within}
+use Rattle.schema_validator.proofs.Budgets.{never_stopped}
 use Rattle.schema_validator.proofs.validator.Validator.iter_errors.Goals as goal
 
 pub returns-in-Ok-clause-depth : goal.returns-in-Ok-clause-depth
-returns-in-Ok-clause-depth g c = unless _ _ _ c.in-Ok.ensures.depth
+returns-in-Ok-clause-depth g c = unless _ _ _ _ c.in-Ok.ensures.depth
 
 pub returns-in-Ok-clause-senses : goal.returns-in-Ok-clause-senses
-returns-in-Ok-clause-senses g c = unless _ _ _ c.in-Ok.ensures.senses
+returns-in-Ok-clause-senses g c = unless _ _ _ _ c.in-Ok.ensures.senses
 
 pub returns-in-Ok-clause-greatest : goal.returns-in-Ok-clause-greatest
-returns-in-Ok-clause-greatest g c = unless _ _ _ c.in-Ok.ensures.greatest
+returns-in-Ok-clause-greatest g c = unless _ _ _ _ c.in-Ok.ensures.greatest
 
 pub returns-in-Ok-clause-points : goal.returns-in-Ok-clause-points
-returns-in-Ok-clause-points g c = unless _ _ _ c.in-Ok.ensures.points
+returns-in-Ok-clause-points g c = unless _ _ _ _ c.in-Ok.ensures.points
 
 pub returns-in_ok-limit_failure_alone-in-Some-clause-depth : goal.returns-in_ok-limit_failure_alone-in-Some-clause-depth
-returns-in_ok-limit_failure_alone-in-Some-clause-depth g c = stops _ _ _ _ c.in-Some.ensures.limit (subst (λ (es : List ValidationError). OnlyTellsLimit (view c.args.instance.now) es c.in-Some.limit) (sym c.new.ensures.errors) c.in_ok-limit_failure_alone-in-Some.ensures.tells)
+returns-in_ok-limit_failure_alone-in-Some-clause-depth g c = stops _ _ _ _ _ c.in-Some.ensures.limit (subst (λ (es : List ValidationError). OnlyTellsLimit (view c.args.instance.now) es c.in-Some.limit) (sym c.new.ensures.errors) c.in_ok-limit_failure_alone-in-Some.ensures.tells)
 
 pub returns-in_ok-limit_failure_alone-in-Some-clause-senses : goal.returns-in_ok-limit_failure_alone-in-Some-clause-senses
-returns-in_ok-limit_failure_alone-in-Some-clause-senses g c = stops _ _ _ _ c.in-Some.ensures.limit (subst (λ (es : List ValidationError). OnlyTellsLimit (view c.args.instance.now) es c.in-Some.limit) (sym c.new.ensures.errors) c.in_ok-limit_failure_alone-in-Some.ensures.tells)
+returns-in_ok-limit_failure_alone-in-Some-clause-senses g c = stops _ _ _ _ _ c.in-Some.ensures.limit (subst (λ (es : List ValidationError). OnlyTellsLimit (view c.args.instance.now) es c.in-Some.limit) (sym c.new.ensures.errors) c.in_ok-limit_failure_alone-in-Some.ensures.tells)
 
 pub returns-in_ok-limit_failure_alone-in-Some-clause-greatest : goal.returns-in_ok-limit_failure_alone-in-Some-clause-greatest
-returns-in_ok-limit_failure_alone-in-Some-clause-greatest g c = stops _ _ _ _ c.in-Some.ensures.limit (subst (λ (es : List ValidationError). OnlyTellsLimit (view c.args.instance.now) es c.in-Some.limit) (sym c.new.ensures.errors) c.in_ok-limit_failure_alone-in-Some.ensures.tells)
+returns-in_ok-limit_failure_alone-in-Some-clause-greatest g c = stops _ _ _ _ _ c.in-Some.ensures.limit (subst (λ (es : List ValidationError). OnlyTellsLimit (view c.args.instance.now) es c.in-Some.limit) (sym c.new.ensures.errors) c.in_ok-limit_failure_alone-in-Some.ensures.tells)
 
 pub returns-in_ok-limit_failure_alone-in-Some-clause-points : goal.returns-in_ok-limit_failure_alone-in-Some-clause-points
-returns-in_ok-limit_failure_alone-in-Some-clause-points g c = stops _ _ _ _ c.in-Some.ensures.limit (subst (λ (es : List ValidationError). OnlyTellsLimit (view c.args.instance.now) es c.in-Some.limit) (sym c.new.ensures.errors) c.in_ok-limit_failure_alone-in-Some.ensures.tells)
+returns-in_ok-limit_failure_alone-in-Some-clause-points g c = stops _ _ _ _ _ c.in-Some.ensures.limit (subst (λ (es : List ValidationError). OnlyTellsLimit (view c.args.instance.now) es c.in-Some.limit) (sym c.new.ensures.errors) c.in_ok-limit_failure_alone-in-Some.ensures.tells)
 
 pub returns-in_ok-limit_failure_alone-in-Some-clause-borrows : goal.returns-in_ok-limit_failure_alone-in-Some-clause-borrows
 returns-in_ok-limit_failure_alone-in-Some-clause-borrows g c =
@@ -43,15 +42,14 @@ returns-in_ok-limit_failure_alone-in-Some-clause-borrows g c =
     subst (All (BorrowsItsPlace d)) (sym (c.new.ensures.errors ∙ told.1)) (All-cons (BorrowsItsPlace d) told.0 [] (tells_borrows d c.in-Some.limit told.0 told.2) (All-nil (BorrowsItsPlace d)))
 
 pub returns-in-Ok-clause-works : goal.returns-in-Ok-clause-works
-returns-in-Ok-clause-works g c = unless _ _ _ (runs_within g.K.Validate g.M.Matcher c.args.self.now (view c.args.instance.now) iter_errors _ _ c.in-Ok.errors (c.within-work.ensures.within ∙ ap allowed c.work_limit.ensures.work) c.in-Ok.ensures.works)
+returns-in-Ok-clause-works g c = unless _ _ _ _ (runs_within g.K.Validate g.M.Matcher c.args.self.now (view c.args.instance.now) iter_errors _ _ c.in-Ok.errors c.budget-work.ensures.budget c.in-Ok.ensures.works)
 
 pub returns-in_ok-limit_failure_alone-in-Some-clause-works : goal.returns-in_ok-limit_failure_alone-in-Some-clause-works
-returns-in_ok-limit_failure_alone-in-Some-clause-works g c = stops _ _ _ _ c.in-Some.ensures.limit (subst (λ (es : List ValidationError). OnlyTellsLimit (view c.args.instance.now) es c.in-Some.limit) (sym c.new.ensures.errors) c.in_ok-limit_failure_alone-in-Some.ensures.tells)
+returns-in_ok-limit_failure_alone-in-Some-clause-works g c = stops _ _ _ _ _ c.in-Some.ensures.limit (subst (λ (es : List ValidationError). OnlyTellsLimit (view c.args.instance.now) es c.in-Some.limit) (sym c.new.ensures.errors) c.in_ok-limit_failure_alone-in-Some.ensures.tells)
 
 pub returns-in-Ok-clause-decides : goal.returns-in-Ok-clause-decides
-returns-in-Ok-clause-decides g c = λ decided accepts. c.in-Ok.ensures.depth
+returns-in-Ok-clause-decides g c = λ none decided accepts. c.in-Ok.ensures.depth
 
 pub returns-in_ok-limit_failure_alone-in-Some-clause-decides : goal.returns-in_ok-limit_failure_alone-in-Some-clause-decides
-returns-in_ok-limit_failure_alone-in-Some-clause-decides g c = λ decided accepts.
-    let given = c.within-work.ensures.within ∙ ap allowed (c.work_limit.ensures.work ∙ c.in-Some.ensures.limit) in
-    absurd (not_stopped g.K.Validate g.M.Matcher c.args.self.now c.args.instance.now _ c.within-work.result c.iter_errors_within.new.work given c.in-Some.ensures.limit decided (λ enough. c.in-Err.ensures.decides enough accepts) (c.in-Err.ensures.fails.limit c.in-Some.ensures.named).0)
+returns-in_ok-limit_failure_alone-in-Some-clause-decides g c = λ none decided accepts.
+    absurd (never_stopped g.K.Validate g.M.Matcher c.args.self.now c.args.instance.now c.in-Some.limit c.budget-work.result c.iter_errors_within.new.work c.in-Err.failure c.budget-work.ensures.budget c.in-Some.ensures.limit c.in-Some.ensures.named none decided (λ enough. c.in-Err.ensures.decides enough accepts) c.in-Err.ensures.fails)

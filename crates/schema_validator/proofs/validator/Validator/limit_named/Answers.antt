@@ -1,11 +1,11 @@
-use Rattle.std.proofs.Common.{◌≡◌, ℕ, subst, sym}
-use Rattle.std.specs.Prelude.{IfSome, Option, Some}
-use Rattle.schema_compiled.proofs.AtLimits.{some_is, where_some}
+use Rattle.std.proofs.Common.{◌≡◌, ◌∙◌, ap, refl, sym}
+use Rattle.std.specs.Prelude.{is_some}
 use Rattle.schema_validator.proofs.validator.Validator.limit_named.Goals as goal
 
-pub returns-in-WorkLimit : goal.returns-in-WorkLimit
-returns-in-WorkLimit g c = record {
-  limit = subst (λ (o : Option ℕ). IfSome o (λ limit. c.args.self.now.work ≡ Some limit)) (sym c.work_limit.ensures.work) (some_is c.args.self.now.work);
-  named = where_some c.work_limit.result c.in-WorkLimit.is;
-  other = λ _. c.work_limit.ensures.work;
+pub returns-in-Some : goal.returns-in-Some
+returns-in-Some g c = record {
+  limit = sym c.work_limit.ensures.work ∙ c.in-Some.is;
+  named = c.in-WorkLimit.is;
+  steps = λ _. ap is_some (sym c.in-Some.is ∙ c.work_limit.ensures.work);
+  depth = λ is. absurd (let f : ⊥ = cc (is, c.in-WorkLimit.is) in f);
 }

@@ -1,4 +1,4 @@
-use Rattle.std.proofs.Common.{◌∙◌, suc, arith, length, refl}
+use Rattle.std.proofs.Common.{◌∙◌, suc, ap, arith, length, refl, sym}
 use Rattle.schema_reports.specs.InstanceViews.{subject_of}
 use Rattle.theory_meaning.specs.Numbered.{left, subject_in}
 use Rattle.schema_traits.specs.KeywordViews.{mode_of}
@@ -6,6 +6,8 @@ use Rattle.schema_run_context.specs.Matches.{settling}
 use Rattle.theory_runs.specs.NodeMeets.{reading}
 use Rattle.schema_node_table.specs.NodeTable.{numbered}
 use Rattle.schema_run_context.specs.Progress.{busy_at, places_in}
+use Rattle.schema_run_context.specs.Works.{Budget}
+use Rattle.schema_run_steps.specs.Depths.{held}
 use Rattle.schema_run_steps.proofs.KeywordTurns.{silent, silent_reads}
 use Rattle.schema_run_context.proofs.Matches.{completes_once}
 use Rattle.theory_runs.proofs.NodeOutcomes.{reply_is}
@@ -15,15 +17,19 @@ use Rattle.schema_node.proofs.node.runs.NodesRunNodes.run_further.Goals as goal
 
 pub node_reply-requires : goal.node_reply-requires
 node_reply-requires g c = record {
-  may = record {
-    known = c.requires.known;
-    ranked = ranked_table g.K.Validate.shape c.args.self.now c.assert_ordered.ensures.ordered.0 c.assert_ordered.ensures.ordered.1;
-    above = rw c.given-place.ensures.same c.requires.above;
-    wanted = c.requires.wanted;
-    stands = rw c.given-place.ensures.same c.requires.stands;
-    goes_on = rw c.given-place.ensures.same c.requires.goes_on;
+  may_reply = record {
+    may = record {
+      known = c.requires.known;
+      ranked = ranked_table g.K.Validate.shape c.args.self.now c.assert_ordered.ensures.ordered.0 c.assert_ordered.ensures.ordered.1;
+      above = rw c.given-place.ensures.same c.requires.above;
+      wanted = c.requires.wanted;
+      stands = rw c.given-place.ensures.same c.requires.stands;
+      goes_on = rw c.given-place.ensures.same c.requires.goes_on;
+    };
+    carries = c.given-place.ensures.carries (places_in c.args.context.now);
+    deep = ap held (sym c.given-path.ensures.edges);
   };
-  carries = c.given-place.ensures.carries (places_in c.args.context.now);
+  limit = c.depth_limit.ensures.deepest ∙ ap (λ (w : Budget). w.deepest) c.work.ensures.work;
 }
 
 pub returns : goal.returns

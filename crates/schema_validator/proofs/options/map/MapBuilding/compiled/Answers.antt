@@ -65,7 +65,7 @@ returns g c =
     let within = within_alone r owns script m (k.words true) options k.shape options.limit options.nested key keys nodes (done true) in
     let made = c.in_ok-validator.ensures.made in
     let program = program_alone r owns script m (k.words true) options k.shape options.limit options.nested key keys nodes (done true)
-    schema (v self.root.now) c.requires.root g.M.Matcher.matching c.in_ok-validator.validator made c.in_ok-validator.ensures.matcher (c.in_ok-validator.ensures.runs ∙ ap (λ (o : Options). o.runs) c.options.view_is) (c.in_ok-validator.ensures.work ∙ ap (λ (o : Options). o.work) c.options.view_is) in
+    schema (v self.root.now) c.requires.root g.M.Matcher.matching c.in_ok-validator.validator made c.in_ok-validator.ensures.matcher (c.in_ok-validator.ensures.runs ∙ ap (λ (o : Options). o.runs) c.options.view_is) (c.in_ok-validator.ensures.work ∙ ap (λ (o : Options). o.work) c.options.view_is) (c.in_ok-validator.ensures.depth ∙ ap (λ (o : Options). o.depth) c.options.view_is) in
     let h = handed g.S.Resolver g.T.KeywordTable k g.M.Matcher self.resolver.now self.table.now self.matcher.now in
     let keeps : (texts : Bool) → EachKeeps (k.words texts) = λ texts s. (k.absorbed s, keeps_of_turns (k.words texts) s (k.absorbed s) (k.remaining s) (k.can_be texts s) (k.ends texts s) (k.fits texts s) (g.met.K.Validate.turn_laws texts s) (g.met.K.Validate.function_laws texts s)) in
     let each : (texts : Bool) → EachKeepsAbsorbing (k.words texts) k.absorbed =
