@@ -10,6 +10,7 @@ use Rattle.theory_definitions.specs.Keywords.{Named, Question}
 use Rattle.theory_definitions.specs.Matching.{Matching}
 use Rattle.theory_definitions.specs.Reports.{Unit_}
 use Rattle.theory_meaning.specs.Greatest.{IsMonotone}
+use Rattle.theory_meaning.specs.Untold.{NeverTold}
 use Rattle.theory_meaning.specs.UnitsLead.{EachHandsUnitsOn, HandsUnitsOn, IsHandedOn}
 use Rattle.keyword_authoring.specs.WayGrows.{way_grows}
 use Rattle.keyword_authoring.specs.WayHandsOn.{ways_hand_units_on}
@@ -31,9 +32,15 @@ checked true x y rest h = rest h
 checked false x y rest h = h
 
 pub fused_grows : (texts : Bool) (m : FusedShape) → says_monotone m ≡ true → IsMonotone (fused_words texts) m
-fused_grows texts (of_bench m) h s matches a b where_yes holds = basics_grow texts m h s matches a b where_yes holds
-fused_grows texts (of_array k) h s matches a b where_yes holds =
-    checked (checks_hold k s) _ _ (way_grows (passes_on (questions_of k s)) refl matches a b where_yes) holds
+fused_grows texts (of_bench m) h = let inner = basics_grow texts m h in record { untold = inner.untold; grows = inner.grows }
+fused_grows texts (of_array k) h = record {
+  untold = refl;
+  grows = λ s matches a b where_yes holds. checked (checks_hold k s) _ _ (way_grows (passes_on (questions_of k s)) refl matches a b where_yes) holds;
+}
+
+pub fused_never_told : (texts : Bool) → NeverTold (fused_words texts)
+fused_never_told texts (of_bench m) = refl
+fused_never_told texts (of_array k) = refl
 
 -- ---- the units
 

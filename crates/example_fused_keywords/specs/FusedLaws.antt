@@ -103,6 +103,8 @@ module _ (texts : Bool) (m : BasicShape) where
     faults_read = laws.faults_read;
     units_read = laws.units_read;
     spans_read = laws.spans_read;
+    spans_stand = laws.spans_stand;
+    told_spans = laws.told_spans;
     stands = laws.stands;
     passes = laws.passes;
   }
@@ -324,6 +326,8 @@ array_functions texts k = record {
   units_read = λ s matches a b h. ap (λ g. record (first_gives texts k s) { valid = (first_gives texts k s).valid && g.valid; children = (first_gives texts k s).children ++ g.children })
       (way_units_read (passes_on (questions_of k s)) matches a b h);
   spans_read = λ s. All-nil _;
+  spans_stand = λ s. All-nil _;
+  told_spans = λ told s. All-nil _;
   stands = λ s matches a. All-append (StandsInside s (absorbs k)) (errors texts k s) _ (all_errors texts s k) (way_stands_inside (passes_on (questions_of k s)) matches s (absorbs k) a);
   passes = λ s matches a. All-append (PassesUnchanged a (questions_of k s)) (errors texts k s) _ (all_own texts a (questions_of k s) s k) (way_passes (passes_on (questions_of k s)) matches a);
 }

@@ -31,7 +31,7 @@ impl Model for Shape {
 
 impl Validate for FusedKeyword {
     ghost use Rattle.std.specs.Prelude.{refl};
-    ghost use Rattle.example_fused_keywords.specs.FusedGrows.{fused_grows, fused_hands_units_on};
+    ghost use Rattle.example_fused_keywords.specs.FusedGrows.{fused_grows, fused_hands_units_on, fused_never_told};
     ghost use Rattle.example_fused_keywords.specs.FusedShape.{absorbed_by, is_free, says_monotone};
     ghost use Rattle.example_fused_keywords.specs.FusedShapes.{fused_shape};
     ghost use Rattle.example_fused_keywords.specs.FusedWords.{fused_can_be, fused_ends, fused_fits, fused_left, fused_words};
@@ -112,6 +112,8 @@ impl Validate for FusedKeyword {
     ghost turn_laws = { fused_turns };
 
     ghost function_laws = { fused_functions };
+
+    ghost never_told = { fused_never_told };
 
     ghost grows = { fused_grows };
 

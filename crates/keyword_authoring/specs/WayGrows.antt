@@ -118,7 +118,7 @@ way_grows (asks_match name p text) says matching a b where_yes h = h
 
 -- keywords of kinds that are monotone are monotone
 pub ways_grow : {M : Type 0} (way : Bool → M → Subject → Way) (texts : Bool) (m : M) → ((s : Subject) → Grows (way texts m s)) → IsMonotone (words_of way texts) m
-ways_grow way texts m grows s matches a b where_yes h = grows s matches a b where_yes h
+ways_grow way texts m grows = record { untold = refl; grows = λ s matches a b where_yes h. grows s matches a b where_yes h }
 
 -- ---- an author's own
 

@@ -167,6 +167,8 @@ module _ {M : Type 0} (way : Bool → M → Subject → Way) where
     faults_read = λ s matches a b h. way_faults_read (way texts m s) matches a b h;
     units_read = λ s matches a b h. way_units_read (way texts m s) matches a b h;
     spans_read = λ s. All-nil _;
+    spans_stand = λ s. All-nil _;
+    told_spans = λ told s. All-nil _;
     stands = λ s matches a. way_stands_inside (way texts m s) matches s [] a;
     passes = λ s matches a. way_passes (way texts m s) matches a;
   }

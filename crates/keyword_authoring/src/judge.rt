@@ -224,6 +224,8 @@ impl<J: JudgeKeyword> Validate for Judged<J> {
     ghost function_laws = { own_function_laws (judge_ways J.called J.enough J.shows J.accepts J.error_text J.question J.count)
         J.present };
 
+    ghost never_told = { λ texts m. refl };
+
     ghost grows = { own_grow (judge_ways J.called J.enough J.shows J.accepts J.error_text J.question J.count)
         J.says_monotone (judges_grow J.called J.enough J.shows J.accepts J.error_text J.question J.count J.says_monotone J.grows) };
 

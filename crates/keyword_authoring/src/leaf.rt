@@ -173,6 +173,8 @@ impl<L: LeafKeyword> Validate for Leaf<L> {
     ghost function_laws = { own_function_laws (leaf_ways L.called L.accepts L.error_text)
         (leaf_present L.called L.accepts L.error_text) };
 
+    ghost never_told = { λ texts m. refl };
+
     ghost grows = { own_grow (leaf_ways L.called L.accepts L.error_text) (λ _. true) (leaves_grow L.called L.accepts L.error_text) };
 
     ghost hands_units_on = { own_hand_units_on (leaf_ways L.called L.accepts L.error_text) };

@@ -203,6 +203,8 @@ impl<T: TellingKeyword> Validate for Telling<T> {
 
     ghost function_laws = { own_function_laws (telling_ways T.called T.error_texts) (telling_present T.called T.error_texts) };
 
+    ghost never_told = { λ texts m. refl };
+
     ghost grows = { own_grow (telling_ways T.called T.error_texts) (λ _. true) (tellings_grow T.called T.error_texts) };
 
     ghost hands_units_on = { own_hand_units_on (telling_ways T.called T.error_texts) };

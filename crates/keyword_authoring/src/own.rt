@@ -134,6 +134,8 @@ impl<K: OwnKeyword> Validate for ByTurns<K> {
 
     ghost function_laws = { own_function_laws K.way K.present };
 
+    ghost never_told = { λ texts m. refl };
+
     ghost grows = { own_grow K.way K.says_monotone K.grows };
 
     ghost hands_units_on = { own_hand_units_on K.way };

@@ -374,6 +374,8 @@ impl<P: PlannedKeyword> Validate for Planned<P> {
 
     ghost function_laws = { own_function_laws (plan_ways P.planned P.called P.error_text) (plans_present P.planned P.called P.error_text) };
 
+    ghost never_told = { λ texts m. refl };
+
     ghost grows = { own_grow (plan_ways P.planned P.called P.error_text) P.says_monotone
         (plans_grow P.planned P.called P.error_text P.says_monotone P.grows) };
 

@@ -204,6 +204,8 @@ both_function_laws one other laws_one laws_other texts (First m) = let laws = la
   faults_read = laws.faults_read;
   units_read = laws.units_read;
   spans_read = laws.spans_read;
+  spans_stand = laws.spans_stand;
+  told_spans = laws.told_spans;
   stands = laws.stands;
   passes = laws.passes;
 }
@@ -215,6 +217,8 @@ both_function_laws one other laws_one laws_other texts (Second m) = let laws = l
   faults_read = laws.faults_read;
   units_read = laws.units_read;
   spans_read = laws.spans_read;
+  spans_stand = laws.spans_stand;
+  told_spans = laws.told_spans;
   stands = laws.stands;
   passes = laws.passes;
 }

@@ -5,6 +5,7 @@ use Rattle.theory_definitions.specs.Instance.{Subject, Text}
 use Rattle.theory_definitions.specs.Keywords.{Answer, Keywords, Reply, no_reply}
 use Rattle.theory_definitions.specs.Remembering.{AlwaysAsksVerdict, EachAsksVerdicts}
 use Rattle.theory_meaning.specs.Greatest.{IsMonotone}
+use Rattle.theory_meaning.specs.Untold.{NeverTold}
 use Rattle.theory_meaning.specs.UnitsLead.{EachHandsUnitsOn}
 use Rattle.schema_traits.specs.UnitQuestions.{AlwaysAsksForLess, AsksNoUnits}
 use Rattle.keyword_joins.specs.BothWords.{as_first, as_second, both_words}
@@ -45,8 +46,12 @@ module _ {M N Q R : Type 0} (one : Bool → Keywords M (Q × Answer)) (other : B
   pub both_grow : {says_one : M → Bool} {says_other : N → Bool} → ((texts : Bool) (m : M) → says_one m ≡ true → IsMonotone (one texts) m)
       → ((texts : Bool) (m : N) → says_other m ≡ true → IsMonotone (other texts) m)
       → (texts : Bool) (m : Both M N) → by_side says_one says_other m ≡ true → IsMonotone (both_words one other texts) m
-  both_grow first second texts (First m) says = first texts m says
-  both_grow first second texts (Second m) says = second texts m says
+  both_grow first second texts (First m) says = let h = first texts m says in record { untold = h.untold; grows = h.grows }
+  both_grow first second texts (Second m) says = let h = second texts m says in record { untold = h.untold; grows = h.grows }
+
+  pub both_never_told : ((texts : Bool) → NeverTold (one texts)) → ((texts : Bool) → NeverTold (other texts)) → (texts : Bool) → NeverTold (both_words one other texts)
+  both_never_told first second texts (First m) = first texts m
+  both_never_told first second texts (Second m) = second texts m
 
   pub both_hand_units_on : {absorbs_one : M → List Text} {absorbs_other : N → List Text} → ((texts : Bool) → EachHandsUnitsOn (one texts) absorbs_one)
       → ((texts : Bool) → EachHandsUnitsOn (other texts) absorbs_other)

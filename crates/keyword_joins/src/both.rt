@@ -17,7 +17,7 @@ impl<A: Validate, B: Validate> Validate for Both<A, B> {
     ghost use Rattle.std.specs.Prelude.{refl};
     ghost use Rattle.keyword_joins.specs.BothWords.{both_can_be, both_ends, both_fits, both_left, both_words};
     ghost use Rattle.keyword_joins.specs.BothLaws.{both_function_laws, both_turn_laws};
-    ghost use Rattle.keyword_joins.specs.BothModes.{both_ask_no_units, both_ask_verdicts, both_grow, both_hand_units_on};
+    ghost use Rattle.keyword_joins.specs.BothModes.{both_ask_no_units, both_ask_verdicts, both_grow, both_hand_units_on, both_never_told};
     ghost use Rattle.keyword_joins.specs.Sides.{by_side, side_of};
 
     type Run = Both<A::Run, B::Run>;
@@ -107,6 +107,8 @@ impl<A: Validate, B: Validate> Validate for Both<A, B> {
         A.answers B.answers A.turn_laws B.turn_laws };
 
     ghost function_laws = { both_function_laws A.words B.words A.function_laws B.function_laws };
+
+    ghost never_told = { both_never_told A.words B.words A.never_told B.never_told };
 
     ghost grows = { both_grow A.words B.words A.grows B.grows };
 

@@ -122,6 +122,8 @@ impl Validate for Applicator {
 
     ghost function_laws = { functions_keep };
 
+    ghost never_told = { λ texts m. refl };
+
     ghost grows = { applicators_grow };
 
     ghost hands_units_on = { ways_hand_units_on way };

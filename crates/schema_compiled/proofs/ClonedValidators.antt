@@ -5,7 +5,7 @@ use Rattle.serde_json.specs.Data.{Data}
 use Rattle.serde_json.specs.Written.{has_float}
 use Rattle.theory_definitions.specs.Cover.{Sense, branch_at, evaluate, is_valid}
 use Rattle.theory_meaning.specs.Fractions.{AreWhole}
-use Rattle.theory_definitions.specs.Guarded.{Nodes, guarded_sense, guarded_within, node_unit, yes_unit}
+use Rattle.theory_definitions.specs.Guarded.{Nodes, guarded_sense, guarded_units}
 use Rattle.theory_meaning.specs.Headline.{VerdictSays}
 use Rattle.theory_definitions.specs.Matching.{Completion, Matcher}
 use Rattle.theory_meaning.specs.Means as means
@@ -40,7 +40,7 @@ module _ {C Run K M : Type 0} (keywords : KeywordMembers C Run K) (matchers : Ma
   abbrev HasUnits : Data → EvaluationNode → Read K → Type 0
   HasUnits instance u t = (texts : Bool) → Speaks instance texts t → (deep : ℕ) × ((n : ℕ) → deep ≤ n
       → branch_at (guarded_sense (keywords.words texts) t.3 t.0 (subject_in instance) n t.2) evaluate [] ≡ None
-      → (c : Completion) → unit_of texts u ≡ guarded_within (yes_unit t.0) (node_unit (keywords.words texts) t.3 t.0 (subject_in instance) c) n t.2 [] [] [])
+      → (c : Completion) → unit_of texts u ≡ guarded_units (keywords.words texts) t.3 t.0 (subject_in instance) c n t.2 [] [] [])
 
   abbrev read_of : Program C M → Read K
   read_of p = (numbered keywords.shape p.nodes, length p.nodes, p.root, matchers.matching p.matcher, p.runs)
@@ -56,7 +56,7 @@ module _ {C Run K M : Type 0} (keywords : KeywordMembers C Run K) (matchers : Ma
       depth = depth;
       speaks = λ instance texts. both (Speaks instance texts) (read_of p) (read_of p') same;
       senses = λ instance texts n. ap (λ (t : Read K). guarded_sense (keywords.words texts) t.3 t.0 (subject_in instance) n t.2) same;
-      units = λ instance texts n c. ap (λ (t : Read K). guarded_within (yes_unit t.0) (node_unit (keywords.words texts) t.3 t.0 (subject_in instance) c) n t.2 [] [] []) same;
+      units = λ instance texts n c. ap (λ (t : Read K). guarded_units (keywords.words texts) t.3 t.0 (subject_in instance) c n t.2 [] [] []) same;
     }
 
     pub answer_same : AnswerSame keywords matchers p p'

@@ -20,7 +20,7 @@ use Rattle.unfinished_search.specs.SharedResults.{is_empty}
 use Rattle.unfinished_search.specs.Outcomes.{errors_in, none_in}
 use Rattle.theory_meaning.specs.Searched.{IsRunOf, WantsAllLater}
 use Rattle.unfinished_search.specs.SearchGives.{FailureAlone, GivesErrors, OfRun}
-use Rattle.theory_definitions.specs.Guarded.{Nodes, guarded_within, node_unit, yes_unit}
+use Rattle.theory_definitions.specs.Guarded.{Nodes, guarded_units}
 use Rattle.theory_meaning.specs.Numbered.{subject_in}
 use Rattle.schema_reports.specs.UnitViews.{unit_of}
 use Rattle.schema_reports.specs.declared.evaluation.EvaluationNode.{EvaluationNode}
@@ -199,7 +199,7 @@ module _ {K R : Type 0} (keywords : Keywords K R) (each : EachKeeps keywords) (m
   -- ---- an evaluation whose first run meets no unfinished match
 
   -- what a run without assumptions says of a completion, with its units
-  speaks_for : (c : Completion) → Speaks [] (run_under []) (v.says c) (guarded_within (yes_unit nodes) (node_unit keywords matcher nodes (subject_in instance) c) n root [] [] [])
+  speaks_for : (c : Completion) → Speaks [] (run_under []) (v.says c) (guarded_units keywords matcher nodes (subject_in instance) c n root [] [] [])
   speaks_for c = guarded_speaks keywords matcher nodes (subject_in instance) (λ m. (each m).0) (λ m. (each m).1) [] c (λ a b is. absurd (cc is)) (λ a b is. absurd (cc is)) n root [] [] []
 
   unit_verdict : (texts : Bool) (u : EvaluationNode) → unit_of texts u ≡ (run_under []).units tt → (report_of (unit_of texts u)).valid ≡ verdict_of v []
@@ -211,7 +211,7 @@ module _ {K R : Type 0} (keywords : Keywords K R) (each : EachKeeps keywords) (m
       record { makes_one = some_run; verdict = verdict_alone evaluate branch (report_of (unit_of texts u)).valid (unit_verdict texts u says); apart = λ some. absurd (some branch) }
 
   pub units_first : (texts : Bool) (u : EvaluationNode) → unit_of texts u ≡ (run_under []).units tt → branch_at v evaluate [] ≡ None → (c : Completion)
-      → unit_of texts u ≡ guarded_within (yes_unit nodes) (node_unit keywords matcher nodes (subject_in instance) c) n root [] [] []
+      → unit_of texts u ≡ guarded_units keywords matcher nodes (subject_in instance) c n root [] [] []
   units_first texts u says branch c = says ∙ (speaks_for c).units branch
 
   -- a first run that meets one has a branch

@@ -4,7 +4,7 @@
 use Rattle.std.specs.Prelude.{Bool, List, Option, [], ℕ, ◌≡◌, ◌↔◌}
 use Rattle.serde_json.specs.Data.{Data}
 use Rattle.theory_definitions.specs.Cover.{Sense}
-use Rattle.theory_definitions.specs.Guarded.{guarded_sense, guarded_within, node_unit, yes_unit}
+use Rattle.theory_definitions.specs.Guarded.{guarded_sense, guarded_units}
 use Rattle.theory_definitions.specs.Matching.{Completion}
 use Rattle.theory_meaning.specs.Numbered.{subject_in}
 use Rattle.theory_definitions.specs.Reports.{Unit_}
@@ -28,7 +28,7 @@ module _ {C Run K M : Type 0} (keywords : KeywordMembers C Run K) (matchers : Ma
 
   -- the unit of its root's node, under an outcome of each unfinished match
   abbrev unit_at : Program C M → Data → Bool → ℕ → Completion → Unit_
-  unit_at p instance texts n c = guarded_within (yes_unit (numbered keywords.shape p.nodes)) (node_unit (keywords.words texts) (matchers.matching p.matcher) (numbered keywords.shape p.nodes) (subject_in instance) c) n p.root [] [] []
+  unit_at p instance texts n c = guarded_units (keywords.words texts) (matchers.matching p.matcher) (numbered keywords.shape p.nodes) (subject_in instance) c n p.root [] [] []
 
   -- two validators say the same of every instance, and their calls have the same limits on runs, on
   -- steps and on depth: texts are covered for both or for neither, and at each depth their roots' nodes have

@@ -6,7 +6,7 @@ use Rattle.theory_definitions.specs.Drafts.{Draft}
 use Rattle.theory_definitions.specs.Matching.{Completion, Matcher}
 use Rattle.theory_definitions.specs.Keywords.{Keywords}
 use Rattle.theory_definitions.specs.Cover.{Sense, branch_at, evaluate}
-use Rattle.theory_definitions.specs.Guarded.{guarded_sense, guarded_within, node_unit, yes_unit}
+use Rattle.theory_definitions.specs.Guarded.{guarded_sense, guarded_units}
 use Rattle.theory_meaning.specs.Numbered.{subject_in}
 use Rattle.theory_definitions.specs.Reports.{Unit_}
 use Rattle.schema_reports.specs.UnitViews.{unit_of}
@@ -74,4 +74,4 @@ module _ {K S R M : Type 0} (shape : K → S) (words : Bool → Keywords S R) (i
   abbrev pub HasUnits : EvaluationNode → Type 0
   HasUnits u = (texts : Bool) → Speaks texts → (deep : ℕ) × ((n : ℕ) → deep ≤ n
       → branch_at (guarded_sense (words texts) (matching p.matcher) (numbered shape p.nodes) (subject_in instance) n p.root) evaluate [] ≡ None
-      → (c : Completion) → unit_of texts u ≡ guarded_within (yes_unit (numbered shape p.nodes)) (node_unit (words texts) (matching p.matcher) (numbered shape p.nodes) (subject_in instance) c) n p.root [] [] [])
+      → (c : Completion) → unit_of texts u ≡ guarded_units (words texts) (matching p.matcher) (numbered shape p.nodes) (subject_in instance) c n p.root [] [] [])

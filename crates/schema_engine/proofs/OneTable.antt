@@ -6,7 +6,7 @@ use Rattle.theory_definitions.specs.Parts.{Parts}
 use Rattle.theory_definitions.specs.Plan.{Key}
 use Rattle.theory_meaning.specs.Refusals.{Compiles}
 use Rattle.theory_meaning.specs.Fractions.{AreWhole, IsWholeWord, form_words, node_words}
-use Rattle.theory_definitions.specs.Guarded.{NodeForm, NodePart, NodePlan, Nodes, guarded_sense, guarded_within, node_unit, yes_unit}
+use Rattle.theory_definitions.specs.Guarded.{NodeForm, NodePart, NodePlan, Nodes, guarded_sense, guarded_units}
 use Rattle.theory_definitions.specs.Guarded.{node_always, node_keyword, node_never, node_reference, node_these}
 use Rattle.theory_definitions.specs.Instance.{Place, Subject}
 use Rattle.theory_definitions.specs.Matching.{Assumptions, Matcher, completion_of}
@@ -169,7 +169,7 @@ module _ {S K R C M : Type 0} (h : Handed S K R C M) (options : Options) (schema
 
   -- the units of a table's node, by a matcher
   abbrev units_by : Matcher → Nodes K → (Place → Subject) → Assumptions → ℕ → ℕ → Unit_
-  units_by m nodes subject as' n i = guarded_within (yes_unit nodes) (node_unit (h.words texts) m nodes subject (completion_of as')) n i [] [] []
+  units_by m nodes subject as' n i = guarded_units (h.words texts) m nodes subject (completion_of as') n i [] [] []
 
   -- they are those of its run, which is the same in both tables
   units_alike : (subject : Place → Subject) (as' : Assumptions) (n i : ℕ) → units_by h.matcher table subject as' n i ≡ units_by h.matcher table' subject as' n i

@@ -7,7 +7,7 @@
 use Rattle.std.specs.Prelude.{Bool, List, None, Option, [], is_none, ℕ, ◌≡◌}
 use Rattle.serde_json.specs.Data.{Data}
 use Rattle.theory_definitions.specs.Cover.{Decides, Sense, branch_at, evaluate, is_valid, iter_errors, validate}
-use Rattle.theory_definitions.specs.Guarded.{guarded_sense, guarded_within, node_unit, yes_unit}
+use Rattle.theory_definitions.specs.Guarded.{guarded_sense, guarded_units}
 use Rattle.theory_definitions.specs.Matching.{Assumptions, completion_of}
 use Rattle.theory_meaning.specs.Numbered.{subject_in}
 use Rattle.theory_definitions.specs.Reports.{Unit_}
@@ -40,8 +40,7 @@ module _ {S K R C M : Type 0} (h : Handed S K R C M) where
 
     -- the units that it has then, under these assumed outcomes of unfinished matches
     abbrev pub units_under : Program C M → Assumptions → ℕ → Unit_
-    units_under p as' n = guarded_within (yes_unit (numbered h.shape p.nodes))
-        (node_unit (h.words texts) (h.matching p.matcher) (numbered h.shape p.nodes) (subject_in instance) (completion_of as')) n p.root [] [] []
+    units_under p as' n = guarded_units (h.words texts) (h.matching p.matcher) (numbered h.shape p.nodes) (subject_in instance) (completion_of as') n p.root [] [] []
 
     -- two validators speak alike of an instance: texts are covered for the one only if they are for
     -- the other, and at every depth their roots' nodes have one sense and the same units

@@ -4,15 +4,17 @@ use Rattle.std.specs.Prelude.{All, Contains, Option, Some, None, option_map, opt
 use Rattle.std.specs.List.{list_any}
 use Rattle.serde_json.specs.Data.{Data, null}
 use Rattle.theory_definitions.specs.Instance.{Place, Step, Subject, Text, a_value, after_step, subject_at}
-use Rattle.theory_definitions.specs.Reports.{Error, Outcome, accepted}
-use Rattle.theory_definitions.specs.Matching.{Completion, Matcher, matching}
+use Rattle.theory_definitions.specs.Reports.{Error, Outcome, accepted, spans_nothing}
+use Rattle.theory_definitions.specs.Matching.{Matcher, Matching, beside, matching}
 use Rattle.theory_definitions.specs.Keywords.{Answers, Below, Keywords, Mode, Question, down, first_of_it, for_all, for_first, for_units, for_verdict, here, truth, all_of_it}
-use Rattle.theory_definitions.specs.Meaning.{both, fault_error, false_outcome, kept}
+use Rattle.theory_definitions.specs.Meaning.{both, fault_error, false_outcome, kept, told_of}
 use Rattle.theory_definitions.specs.Pointer.{joined}
 use Rattle.theory_definitions.specs.Runs.{first_error}
 use Rattle.theory_definitions.specs.Laws.{Agrees}
-use Rattle.theory_definitions.specs.Guarded.{Children, NodeEdge, NodeForm, NodePart, NodePlan, Nodes, across, guarded_within, node_always, node_asked, node_at, node_child, node_edges, node_keyword, node_never, node_part, node_parts, node_reference, node_these, yes_outcome}
+use Rattle.theory_definitions.specs.Guarded.{Children, NodeEdge, NodeForm, NodePart, NodePlan, Nodes, across, guarded_within, node_always, node_asked, node_at, node_child, node_edges, node_keyword, node_never, node_others, node_part, node_parts, node_reference, node_these, node_told, yes_outcome}
 use Rattle.theory_meaning.specs.Numbered.{Ranked, left, subject_in}
+use Rattle.theory_meaning.specs.Untold.{NeverTold}
+use Rattle.theory_meaning.proofs.Untold.{never_none, parts_alone_are}
 use Rattle.schema_reports.specs.ReportViews.{BorrowsItsPlace}
 use Rattle.theory_meaning.proofs.Falls.{from_below, left_below, left_entered, left_lower, step_falls}
 use Rattle.schema_traits.specs.FaultViews.{errors_in}
@@ -84,11 +86,11 @@ reply_seen for_all o p v e = ap all_of_it e
 reply_seen for_units o p v e = refl
 
 -- nor what a plan spans
-plan_seen : {K : Type 0} (mode : Mode) (plan : NodePlan K) (a b : Outcome) (f : List (NodePart K) → Outcome)
-    → reply_by mode (elim plan [ node_always ↦ a | node_never ↦ b | node_these xs ↦ f xs ]) ≡ reply_by mode (elim plan [ node_always ↦ a | node_never ↦ b | node_these xs ↦ kept (f xs) ])
-plan_seen mode node_always a b f = refl
-plan_seen mode node_never a b f = refl
-plan_seen mode (node_these xs) a b f = reply_seen mode (f xs) (kept (f xs)) refl refl
+plan_seen : {K : Type 0} (mode : Mode) (plan : NodePlan K) (a b : Outcome) (f g : List (NodePart K) → Outcome) → ((xs : List (NodePart K)) → f xs ≡ g xs)
+    → reply_by mode (elim plan [ node_always ↦ a | node_never ↦ b | node_these xs ↦ f xs ]) ≡ reply_by mode (elim plan [ node_always ↦ a | node_never ↦ b | node_these xs ↦ kept (g xs) ])
+plan_seen mode node_always a b f g same = refl
+plan_seen mode node_never a b f g same = refl
+plan_seen mode (node_these xs) a b f g same = ap (reply_by mode) (same xs) ∙ reply_seen mode (g xs) (kept (g xs)) refl refl
 
 pub replies_accepted : (x : Reading) (mode : Mode) (r : code.Reply) (o : Outcome) → ((texts : Bool) → reply_of texts r ≡ reply_by mode accepted) → errors_in r ≡ [] → o.verdict ≡ true → o.errors ≡ [] → Replies x mode r o
 replies_accepted x mode r o a n v e = record { same = a x.texts ∙ sym (reply_seen mode o accepted v e); borrows = no_error x.root r n }
@@ -197,14 +199,21 @@ module _ {K R : Type 0} (words : Bool → Keywords K R) (is_whole : K → Bool) 
     PlanReplies plan = (x : Reading) → Reads is_whole nodes count w p s x → left nodes count i s busy ≤ x.depth
         → Replies x mode r (elim plan [ node_always ↦ accepted | node_never ↦ false_outcome (words x.texts).texts (node_at (words x.texts) x.matcher nodes (subject_in x.root) i path p) (subject_in x.root p) | node_these xs ↦ parts_say words nodes x i path p busy xs ])
 
-    pub node_by_plan : (plan : NodePlan K) → nodes.entries i ≡ plan → PlanReplies plan → NodeReplies words is_whole nodes count w mode path p busy s i r
-    node_by_plan plan e h x reads l = go x.depth l reads
+    pub node_by_plan : ((texts : Bool) → NeverTold (words texts)) → (plan : NodePlan K) → nodes.entries i ≡ plan → PlanReplies plan → NodeReplies words is_whole nodes count w mode path p busy s i r
+    node_by_plan never plan e h x reads l = go x.depth l reads
       where
         go : (d : ℕ) → left nodes count i s busy < d → Reads is_whole nodes count w p s (record x { depth = d }) → Replies (record x { depth = d }) mode r (deep words nodes (record x { depth = d }) i path p busy)
         go zero l reads = absurd (omega arith)
         go (suc d) l reads =
+            let edges : NodeEdge → Below → Outcome = edge_says words nodes (record x { depth = d }) path p busy in
+            let others : List (NodePart K) → Step → Bool = node_others (words x.texts) x.matcher nodes (subject_in x.root) x.completion i path p edges in
             let answer = (subst PlanReplies (sym e) h) (record x { depth = d }) (record { stands = reads.stands; tells = reads.tells; matcher = reads.matcher; completes = reads.completes }) (omega arith) in
-            record { same = answer.same ∙ plan_seen mode (nodes.entries i) accepted _ _; borrows = answer.borrows }
+            record {
+              same = answer.same ∙ plan_seen mode (nodes.entries i) accepted _ (parts_say words nodes (record x { depth = d }) i path p busy)
+                  (λ xs. node_parts (words x.texts) x.matcher nodes (subject_in x.root) x.completion i path p edges (others xs) xs)
+                  (λ xs. sym (parts_alone_are (words x.texts) x.matcher nodes (subject_in x.root) x.completion i path p edges (others xs) xs (never_none (words x.texts) (never x.texts) xs)));
+              borrows = answer.borrows;
+            }
 
   -- ---- entries
 
@@ -227,7 +236,7 @@ module _ {K R : Type 0} (words : Bool → Keywords K R) (is_whole : K → Bool) 
 -- ---- the verdict is yes exactly where there is no error
 
 module _ {K R : Type 0} (words : Bool → Keywords K R) (nodes : Nodes K)
-    (agree : (texts : Bool) (m : K) (s : Subject) (c : Completion) (matcher : Matcher) (a : Answers) → ((q : Question) → Agrees (a q)) → ((words texts).holds m s (matching matcher c) (λ q. (a q).verdict) ≡ true) ↔ ((words texts).faults m s (matching matcher c) a ≡ [])) (x : Reading) where
+    (agree : (texts : Bool) (m : K) (s : Subject) (matches : Matching) (a : Answers) → ((q : Question) → Agrees (a q)) → ((words texts).holds m s matches (λ q. (a q).verdict) ≡ true) ↔ ((words texts).faults m s matches a ≡ [])) (x : Reading) where
   none_mapped : {A B : Type 0} (f : A → B) (xs : List A) → map f xs ≡ [] → xs ≡ []
   none_mapped f [] h = refl
   none_mapped f (y ∷ ys) h = absurd (let q : ⊥ = cc in q)
@@ -266,20 +275,23 @@ module _ {K R : Type 0} (words : Bool → Keywords K R) (nodes : Nodes K)
         by None = agrees_accepted
         by (Some e) = each e q.below
 
-    pub agrees_form : (name : Text) (form : NodeForm K) → Agrees (node_part (words x.texts) x.matcher nodes (subject_in x.root) x.completion i path p go name form)
-    agrees_form name (node_keyword m es) =
-        let h = agree x.texts m (subject_in x.root p) x.completion x.matcher (node_asked (words x.texts) x.matcher nodes (subject_in x.root) accepted es go) (agrees_child es) in
+    pub agrees_form : (others : Step → Bool) (name : Text) (form : NodeForm K) → Agrees (node_part (words x.texts) x.matcher nodes (subject_in x.root) x.completion i path p go others name form)
+    agrees_form others name (node_keyword m es) =
+        let h = agree x.texts m (subject_in x.root p) (beside others (matching x.matcher x.completion)) (node_asked (words x.texts) x.matcher nodes (subject_in x.root) accepted es go) (agrees_child es) in
         (λ e. ap (map (fault_error (node_at (words x.texts) x.matcher nodes (subject_in x.root) i path p) name)) (h.0 e), λ e. h.1 (none_mapped _ _ e))
-    agrees_form name (node_reference e) = agrees_mapped (go e here).verdict (go e here).errors _ (each e here)
+    agrees_form others name (node_reference e) = agrees_mapped (go e here).verdict (go e here).errors _ (each e here)
 
-    agrees_parts : (xs : List (NodePart K)) → Agrees (node_parts (words x.texts) x.matcher nodes (subject_in x.root) x.completion i path p go xs)
-    agrees_parts [] = agrees_accepted
-    agrees_parts (y ∷ ys) = agrees_both (node_part (words x.texts) x.matcher nodes (subject_in x.root) x.completion i path p go y.name y.form) (node_parts (words x.texts) x.matcher nodes (subject_in x.root) x.completion i path p go ys) (agrees_form y.name y.form) (agrees_parts ys)
+    agrees_parts : (others : Step → Bool) (xs : List (NodePart K)) → Agrees (node_parts (words x.texts) x.matcher nodes (subject_in x.root) x.completion i path p go others xs)
+    agrees_parts others [] = agrees_accepted
+    agrees_parts others (y ∷ ys) =
+        let told : Step → Bool = told_of others (node_told (words x.texts) y.form) in
+        agrees_both (node_part (words x.texts) x.matcher nodes (subject_in x.root) x.completion i path p go told y.name y.form) (node_parts (words x.texts) x.matcher nodes (subject_in x.root) x.completion i path p go others ys)
+        (agrees_form told y.name y.form) (agrees_parts others ys)
 
-    agrees_plan : (plan : NodePlan K) → Agrees (elim plan [ node_always ↦ accepted | node_never ↦ false_outcome (words x.texts).texts (node_at (words x.texts) x.matcher nodes (subject_in x.root) i path p) (subject_in x.root p) | node_these xs ↦ kept (node_parts (words x.texts) x.matcher nodes (subject_in x.root) x.completion i path p go xs) ])
+    agrees_plan : (plan : NodePlan K) → Agrees (elim plan [ node_always ↦ accepted | node_never ↦ false_outcome (words x.texts).texts (node_at (words x.texts) x.matcher nodes (subject_in x.root) i path p) (subject_in x.root p) | node_these xs ↦ kept (node_parts (words x.texts) x.matcher nodes (subject_in x.root) x.completion i path p go (node_others (words x.texts) x.matcher nodes (subject_in x.root) x.completion i path p go xs) xs) ])
     agrees_plan node_always = agrees_accepted
     agrees_plan node_never = (λ e. absurd (true≢false (sym e)), λ e. absurd (let q : ⊥ = cc in q))
-    agrees_plan (node_these xs) = agrees_parts xs
+    agrees_plan (node_these xs) = agrees_parts (node_others (words x.texts) x.matcher nodes (subject_in x.root) x.completion i path p go xs) xs
 
   pub agrees_deep : (n i : ℕ) (path : Text) (p : Place) (busy : List ℕ) → Agrees (guarded_within yes_outcome (node_says words nodes x) n i path p busy)
   agrees_deep zero i path p busy = agrees_accepted
@@ -289,7 +301,7 @@ module _ {K R : Type 0} (words : Bool → Keywords K R) (nodes : Nodes K)
   agrees_answers path p busy es q = agrees_child (edge_says words nodes x path p busy) (λ e b. agrees_edge (guarded_within yes_outcome (node_says words nodes x) x.depth) (agrees_deep x.depth) path p busy e b) 0 path p es q
 
   pub agrees_says : (i : ℕ) (path : Text) (p : Place) (busy : List ℕ) (name : Text) (form : NodeForm K) → Agrees (form_says words nodes x i path p busy name form)
-  agrees_says i path p busy name form = agrees_form (edge_says words nodes x path p busy) (λ e b. agrees_edge (guarded_within yes_outcome (node_says words nodes x) x.depth) (agrees_deep x.depth) path p busy e b) i path p name form
+  agrees_says i path p busy name form = agrees_form (edge_says words nodes x path p busy) (λ e b. agrees_edge (guarded_within yes_outcome (node_says words nodes x) x.depth) (agrees_deep x.depth) path p busy e b) i path p spans_nothing name form
 
   -- a leaf that says yes has no errors
   pub leaf_accepts : (mode : Mode) (i : ℕ) (path : Text) (p : Place) (busy : List ℕ) (name : Text) (form : NodeForm K) (verdict r : code.Reply) → accepts (reply_of x.texts verdict) ≡ true
@@ -298,5 +310,5 @@ module _ {K R : Type 0} (words : Bool → Keywords K R) (nodes : Nodes K)
   leaf_accepts mode i path p busy name form verdict r t h a n =
       let o : Outcome = form_says words nodes x i path p busy name form in
       let yes : o.verdict ≡ true = ap accepts (sym h.same) ∙ t in
-      let none : o.errors ≡ [] = (agrees_form _ (λ e b. agrees_edge (guarded_within yes_outcome (node_says words nodes x) x.depth) (agrees_deep x.depth) path p busy e b) i path p name form).0 yes in
+      let none : o.errors ≡ [] = (agrees_form _ (λ e b. agrees_edge (guarded_within yes_outcome (node_says words nodes x) x.depth) (agrees_deep x.depth) path p busy e b) i path p spans_nothing name form).0 yes in
       replies_accepted x mode r o a n yes none

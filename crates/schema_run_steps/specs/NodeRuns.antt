@@ -4,13 +4,14 @@ use Rattle.std.specs.List.{list_any}
 use Rattle.serde_json.specs.Data.{Data}
 use Rattle.serde_json.specs.Written.{has_float}
 use Rattle.theory_definitions.specs.Instance.{Place, Subject, Text, subject_at}
-use Rattle.theory_definitions.specs.Reports.{Outcome, accepted}
+use Rattle.theory_definitions.specs.Reports.{Outcome, accepted, spans_nothing}
 use Rattle.theory_definitions.specs.Matching.{Completion, Matcher, Pair, assumed, completed}
 use Rattle.theory_definitions.specs.Keywords.{Below, Keywords, Mode, Question, here}
 use Rattle.theory_definitions.specs.Unfinished.{or_no}
-use Rattle.theory_definitions.specs.Guarded.{Children, NodeEdge, NodeForm, NodePart, Nodes, across, guarded_within, node_asked, node_child, node_edges, node_keyword, node_outcome, node_part, node_parts, node_these, yes_outcome}
+use Rattle.theory_definitions.specs.Guarded.{Children, NodeEdge, NodeForm, NodePart, Nodes, across, guarded_within, node_asked, node_child, node_edges, node_keyword, node_outcome, node_part, node_these, yes_outcome}
 use Rattle.theory_meaning.specs.Fractions.{AreWhole}
 use Rattle.theory_meaning.specs.Numbered.{left, subject_in}
+use Rattle.theory_meaning.specs.Untold.{parts_alone}
 use Rattle.schema_reports.specs.ReportViews.{BorrowsItsPlace}
 use Rattle.schema_run_context.specs.Matches.{Settling}
 use Rattle.schema_traits.specs.EdgeViews.{edge_of}
@@ -66,10 +67,10 @@ module _ {K R : Type 0} (words : Bool → Keywords K R) (nodes : Nodes K) (x : R
   child_says path p busy es = node_asked (words x.texts) x.matcher nodes (subject_in x.root) accepted es (edge_says path p busy)
 
   abbrev pub form_says : ℕ → Text → Place → List ℕ → Text → NodeForm K → Outcome
-  form_says i path p busy = node_part (words x.texts) x.matcher nodes (subject_in x.root) x.completion i path p (edge_says path p busy)
+  form_says i path p busy = node_part (words x.texts) x.matcher nodes (subject_in x.root) x.completion i path p (edge_says path p busy) spans_nothing
 
   abbrev pub parts_say : ℕ → Text → Place → List ℕ → List (NodePart K) → Outcome
-  parts_say i path p busy = node_parts (words x.texts) x.matcher nodes (subject_in x.root) x.completion i path p (edge_says path p busy)
+  parts_say i path p busy = parts_alone (words x.texts) x.matcher nodes (subject_in x.root) x.completion i path p (edge_says path p busy)
 
 -- a reply is the one that an outcome yields in a mode, and its errors borrow their places
 pub record Replies (x : Reading) (mode : Mode) (r : code.Reply) (o : Outcome) : Type 0 where

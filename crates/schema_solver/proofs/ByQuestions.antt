@@ -5,7 +5,6 @@ use Rattle.serde_json.specs.View.{view}
 use Rattle.theory_definitions.specs.Instance.{Place, Subject, Text}
 use Rattle.theory_definitions.specs.Guarded.{Children, node_keyword}
 use Rattle.theory_definitions.specs.Keywords.{Question}
-use Rattle.theory_definitions.specs.Laws.{EachKeeps}
 use Rattle.theory_definitions.specs.Matching.{Matching, completed, completion_of, finished, matching, settled}
 use Rattle.theory_meaning.specs.Numbered.{Ranked, subject_in}
 use Rattle.schema_traits.specs.KeywordViews.{Tells as MayTell}
@@ -14,6 +13,7 @@ use Rattle.schema_traits.specs.declared.asking.Asking.TheVariants as asking
 use Rattle.schema_traits.specs.Questions.{SaysByQuestions, answers_say, puts_questions}
 use Rattle.schema_run_steps.specs.NodeRuns.{HasForm}
 use Rattle.schema_run_steps.proofs.NodeRuns.{stands_in}
+use Rattle.theory_fixed_points.specs.NodesSay.{KeepsUntold}
 use Rattle.theory_fixed_points.specs.Under.{EdgeAnswers, Solving}
 use Rattle.theory_fixed_points.specs.Stages.{ChildTells, Fits, FormTells, child_by, edges_by}
 use Rattle.theory_fixed_points.proofs.Between.{grows_fits, lean_less}
@@ -89,7 +89,7 @@ module _ {K R : Type 0} (g : Setting K R) (c : Solver) (s : Subject) (p : Place)
 
 -- ---- after an answer
 
-module _ {K R : Type 0} (g : Setting K R) (laws : (texts : Bool) → EachKeeps (g.words texts)) (ranked : Ranked g.nodes g.count) (p : Place) (c d : Solver) (went : Goes g p c d)
+module _ {K R : Type 0} (g : Setting K R) (laws : (texts : Bool) → KeepsUntold (g.words texts)) (ranked : Ranked g.nodes g.count) (p : Place) (c d : Solver) (went : Goes g p c d)
     (m : K) (es : Children) (all l : Bool) (q : Question) (rest : List Question)
     (so_far : InEach g (view c.root) (λ texts w. SaysByTheRest w p (found_of c) m es all l (q ∷ rest)))
     (b k : Bool) (says : InEach g (view d.root) (λ texts w. ChildTells w p (found_of d) es q b k)) where

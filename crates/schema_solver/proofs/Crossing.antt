@@ -11,7 +11,6 @@ use Rattle.theory_definitions.specs.Instance.{Place, Step, Subject, Text, after_
 use Rattle.theory_definitions.specs.Guarded.{Children, NodeEdge, NodePart, Nodes, node_edges, node_keyword}
 use Rattle.theory_definitions.specs.Keywords.{Answer}
 use Rattle.theory_definitions.specs.Turns.{Standing, TurnLaws}
-use Rattle.theory_definitions.specs.Laws.{EachKeeps}
 use Rattle.theory_meaning.specs.Numbered.{Ranked, left, subject_in}
 use Rattle.theory_meaning.proofs.Falls.{left_below, left_entered, left_lower, step_falls}
 use Rattle.schema_places.specs.Numbers.{OwnNumbers, number_of}
@@ -22,6 +21,7 @@ use Rattle.schema_run_context.specs.Verdicts.{Remembers, is_pair, verdict_of}
 use Rattle.schema_run_context.proofs.Pairs.{among-pair, busy-pushed, snoc_first}
 use Rattle.schema_run_steps.specs.NodeRuns.{HasForm}
 use Rattle.schema_run_steps.proofs.NodeRuns.{stands_in}
+use Rattle.theory_fixed_points.specs.NodesSay.{KeepsUntold}
 use Rattle.theory_fixed_points.specs.Under.{EdgeAnswers, IsSolvable, Solving}
 use Rattle.theory_fixed_points.specs.Found.{NoneAt}
 use Rattle.theory_fixed_points.specs.Stages.{FormTells, PairTells, PartsTell, Tells, edges_by, form_by, parts_by}
@@ -185,7 +185,7 @@ module _ {K R : Type 0} (g : Setting K R) (old : Solver) (p : Place) (i : ℕ) w
       pub ran_settles : SettlesAll ((i, p) ∷ drop mark x.assumed) x.verdicts n.verdicts → SettlesAll ((i, p) ∷ ran.went.more) e.verdicts n.verdicts
       ran_settles settles = subst (λ es. SettlesAll ((i, p) ∷ es) e.verdicts n.verdicts) since_mark (subst (λ vs. SettlesAll ((i, p) ∷ drop mark x.assumed) vs n.verdicts) ran.verdicts settles)
 
-module _ {K R : Type 0} (g : Setting K R) (laws : (texts : Bool) → EachKeeps (g.words texts)) (old : Solver) (s : Subject) (p : Place) (i : ℕ) (may : MaySolve g old s p i)
+module _ {K R : Type 0} (g : Setting K R) (laws : (texts : Bool) → KeepsUntold (g.words texts)) (old : Solver) (s : Subject) (p : Place) (i : ℕ) (may : MaySolve g old s p i)
     (b e x : Solver) (mark : ℕ) (v : WhatIsSaid) (ran : PairRan g old b e x p i mark v)
     (n : Solver) (root : n.root ≡ x.root) (still : n.in_progress ≡ x.in_progress) (marking : n.marking ≡ x.marking) (begun : n.begun ≡ x.begun) where
   leaves : Leaves old e n
@@ -341,7 +341,7 @@ module _ {K R : Type 0} (g : Setting K R) (p : Place) (c d : Solver) (went : Goe
 
 -- ---- a keyword that decides without questions
 
-module _ {K R : Type 0} (g : Setting K R) (laws : (texts : Bool) → EachKeeps (g.words texts)) (c : Solver) (s : Subject) (p : Place) (i : ℕ) (may : MaySolve g c s p i) where
+module _ {K R : Type 0} (g : Setting K R) (laws : (texts : Bool) → KeepsUntold (g.words texts)) (c : Solver) (s : Subject) (p : Place) (i : ℕ) (may : MaySolve g c s p i) where
   pub solvable_here : (root : Data) (texts : Bool) → IsSolvable (solving_in g root texts)
   solvable_here root texts = solvable_in g laws may.ranked root texts
 

@@ -10,13 +10,14 @@ use Rattle.serde_json.specs.declared.value.Value.{Value}
 use Rattle.theory_definitions.specs.Instance.{Place, Subject, Text, a_value, subject_at}
 use Rattle.theory_definitions.specs.Guarded.{guarded_within, node_outcome, yes_outcome}
 use Rattle.theory_definitions.specs.Keywords.{Below}
-use Rattle.theory_definitions.specs.Laws.{EachKeeps}
 use Rattle.theory_definitions.specs.Meaning.{place_below}
 use Rattle.theory_definitions.proofs.Products.{in_either}
 use Rattle.schema_traits.specs.MatcherViews.{FinishesEach}
 use Rattle.schema_run_context.specs.Progress.{NoDeeper, root_places}
 use Rattle.schema_run_context.specs.Verdicts.{verdict_of}
 use Rattle.theory_meaning.specs.Numbered.{Ranked, left, subject_in}
+use Rattle.theory_fixed_points.specs.NodesSay.{KeepsUntold}
+use Rattle.theory_fixed_points.proofs.NodesSay.{are_untold}
 use Rattle.theory_fixed_points.specs.Under.{Solving, IsSolvable}
 use Rattle.theory_fixed_points.specs.Found.{Found, IsSound}
 use Rattle.theory_fixed_points.specs.Stages.{IsStaged, Tells}
@@ -131,10 +132,11 @@ module _ {K R : Type 0} (g : Setting K R) where
 
   -- ---- at the end
 
-  module _ (laws : (texts : Bool) → EachKeeps (g.words texts)) (ranked : Ranked g.nodes g.count) (v : Value) (i : ℕ) (l : i < g.count) (c : Solver) (went : Goes g [] (fresh v) c) where
+  module _ (laws : (texts : Bool) → KeepsUntold (g.words texts)) (ranked : Ranked g.nodes g.count) (v : Value) (i : ℕ) (l : i < g.count) (c : Solver) (went : Goes g [] (fresh v) c) where
     solvable : (texts : Bool) → IsSolvable (solving_in g (view v) texts)
     solvable texts = record {
-      laws = laws texts;
+      laws = (laws texts).laws;
+      untold = are_untold (g.words texts) (laws texts).never g.nodes g.count;
       ranked = ranked;
       cuts = λ e guarded. or_left _ _ guarded;
       alike = λ d e same guards. ap₂ (λ x y. x || not (g.is_followed y)) guards same;

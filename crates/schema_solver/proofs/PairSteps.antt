@@ -9,11 +9,12 @@ use Rattle.serde_json.specs.View.{view}
 use Rattle.serde_json.specs.Data.{Data}
 use Rattle.serde_json.specs.declared.value.Value.{Value}
 use Rattle.theory_definitions.specs.Instance.{Place, Subject, subject_at}
-use Rattle.theory_definitions.specs.Laws.{EachKeeps}
 use Rattle.theory_definitions.proofs.Products.{in_either}
 use Rattle.schema_run_context.specs.Progress.{NoDeeper, Pairs, root_places}
 use Rattle.schema_run_context.specs.Verdicts.{Remembers, is_pair}
 use Rattle.schema_run_steps.specs.NodeRuns.{TellsAll}
+use Rattle.theory_fixed_points.specs.NodesSay.{KeepsUntold}
+use Rattle.theory_fixed_points.proofs.NodesSay.{are_untold}
 use Rattle.theory_fixed_points.specs.Under.{Solving, IsSolvable}
 use Rattle.theory_fixed_points.specs.Found.{Grows, NoneAt, NoneDeeper, after_no, after_yes, after_yes_alone, after_yes_free, entered, is_this}
 use Rattle.theory_fixed_points.specs.Stages.{IsStaged, PairTells, Tells, for_now}
@@ -83,7 +84,7 @@ module _ {K R : Type 0} (g : Setting K R) (old : Solver) (p : Place) (i : ℕ) w
           (late.within_bound ns each) (counted_begun b begins ns each counted);
     }
 
-module _ {K R : Type 0} (g : Setting K R) (laws : (texts : Bool) → EachKeeps (g.words texts)) where
+module _ {K R : Type 0} (g : Setting K R) (laws : (texts : Bool) → KeepsUntold (g.words texts)) where
   -- a fact in each reading of a root value
   at_root : (fact : Bool → Solving K R → Type 0) (v u : Value) → v ≡ u → InEach g (view v) fact → InEach g (view u) fact
   at_root fact v u same = subst (λ r. InEach g (view r) fact) same
@@ -91,7 +92,8 @@ module _ {K R : Type 0} (g : Setting K R) (laws : (texts : Bool) → EachKeeps (
   module _ (old b : Solver) (s : Subject) (p : Place) (i : ℕ) (may : MaySolve g old s p i) (is_new : IsNew g old p i) (begins : Begins i p old b) where
     pub solvable : (root : Data) (texts : Bool) → IsSolvable (solving_in g root texts)
     solvable root texts = record {
-      laws = laws texts;
+      laws = (laws texts).laws;
+      untold = are_untold (g.words texts) (laws texts).never g.nodes g.count;
       ranked = may.ranked;
       cuts = λ e guarded. or_left _ _ guarded;
       alike = λ c d same guards. ap₂ (λ x y. x || not (g.is_followed y)) guards same;

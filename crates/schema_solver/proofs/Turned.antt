@@ -7,7 +7,6 @@ use Rattle.serde_json.specs.Data.{Data}
 use Rattle.serde_json.specs.View.{view}
 use Rattle.theory_definitions.specs.Instance.{Place, Subject, Text}
 use Rattle.theory_definitions.specs.Keywords.{Answer, Marked, MatchPoint, Mode, Question, Reply, Turn, ask, done, ecma, for_verdict, mark, match_text, no_reply, truth, unmark}
-use Rattle.theory_definitions.specs.Laws.{EachKeeps}
 use Rattle.theory_definitions.specs.Matching.{Pair, completed, completion_of, finished, settled}
 use Rattle.theory_definitions.specs.Remembering.{AlwaysAsksVerdict, AsksVerdict, EachAsksVerdicts}
 use Rattle.theory_definitions.specs.Runs.{with_mark, without_last}
@@ -27,6 +26,8 @@ use Rattle.schema_run_steps.specs.NodeRuns.{HasForm, TellsAll}
 use Rattle.schema_run_steps.proofs.KeywordTurns.{falls_turned}
 use Rattle.schema_run_steps.proofs.NodeParts.{keyword_in, tells_keyword}
 use Rattle.schema_run_steps.proofs.NodeRuns.{stands_in}
+use Rattle.theory_fixed_points.specs.NodesSay.{KeepsUntold}
+use Rattle.theory_fixed_points.proofs.NodesSay.{are_untold}
 use Rattle.theory_fixed_points.specs.Under.{Solving, IsSolvable}
 use Rattle.theory_fixed_points.specs.Found.{Grows}
 use Rattle.theory_fixed_points.specs.Stages.{ChildTells, Consistent, FormTells, IsStaged}
@@ -54,10 +55,11 @@ keyword_says g says i m es each l form = All-contains (λ m. says m ≡ true) (n
 
 module _ {K R : Type 0} (g : Setting K R) where
   -- what is solved keeps the laws in each reading
-  pub solvable_in : ((texts : Bool) → EachKeeps (g.words texts)) → Ranked g.nodes g.count
+  pub solvable_in : ((texts : Bool) → KeepsUntold (g.words texts)) → Ranked g.nodes g.count
       → (root : Data) (texts : Bool) → IsSolvable (solving_in g root texts)
   solvable_in keeps ranked root texts = record {
-    laws = keeps texts;
+    laws = (keeps texts).laws;
+    untold = are_untold (g.words texts) (keeps texts).never g.nodes g.count;
     ranked = ranked;
     cuts = λ e guarded. or_left _ _ guarded;
     alike = λ d e same guards. ap₂ (λ x y. x || not (g.is_followed y)) guards same;
@@ -150,7 +152,7 @@ module _ {K R : Type 0} (g : Setting K R) where
 
     -- ---- it is in a good state for all answers of the edges
 
-    module _ (keeps : (texts : Bool) → EachKeeps (g.words texts)) (c0 : Solver) (p : Place) (i : ℕ) (may : MaySolve g c0 s p i) (es : Children) (form : HasForm g.nodes i (node_keyword m es)) where
+    module _ (keeps : (texts : Bool) → KeepsUntold (g.words texts)) (c0 : Solver) (p : Place) (i : ℕ) (may : MaySolve g c0 s p i) (es : Children) (form : HasForm g.nodes i (node_keyword m es)) where
       abbrev here_in : Bool → Solving K R
       here_in = solving_in g (view c0.root)
 

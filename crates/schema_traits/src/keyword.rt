@@ -17,6 +17,7 @@ ghost use Rattle.schema_reports.specs.ReportViews.{BorrowsItsPlace};
 ghost use Rattle.theory_definitions.specs.Remembering.{EachAsksVerdicts};
 ghost use Rattle.theory_meaning.specs.Greatest.{IsMonotone};
 ghost use Rattle.theory_meaning.specs.UnitsLead.{EachHandsUnitsOn};
+ghost use Rattle.theory_meaning.specs.Untold.{NeverTold};
 ghost use Rattle.schema_traits.specs.AskedAtOnce.{HoldsAsTold};
 ghost use Rattle.schema_traits.specs.AtOnce.{EndsAtOnce};
 ghost use Rattle.schema_traits.specs.FaultViews.{errors_in, faults_in, PassesBorrowed};
@@ -305,6 +306,8 @@ pub trait Validate: Drop {
         → TurnLaws (words texts) m (absorbed m) (remaining m) (can_be texts m) (ends texts m) (fits texts m) };
 
     ghost function_laws: { (texts : Bool) (m : Self.Shape) → FunctionLaws (words texts) m (absorbed m) };
+    // No keyword is told what others span, since no run finds that yet.
+    ghost never_told: { (texts : Bool) → NeverTold (words texts) };
     // A keyword that declares that it is monotone is monotone.
     ghost grows: { (texts : Bool) (m : Self.Shape) → says_monotone m ≡ true → IsMonotone (words texts) m };
     // The units inside its own unit, and inside those of the keywords that it absorbs, are answers

@@ -21,7 +21,7 @@ use Rattle.schema_reports.specs.declared.reports.ValidationError.{ValidationErro
 use Rattle.theory_meaning.specs.ErrorsLead.{EachKeepsAbsorbing, EachLeads, MakesAbsorbing, PointsAt}
 use Rattle.theory_meaning.specs.UnitsLead.{EachHandsUnitsOn, UnitsPoint}
 use Rattle.theory_meaning.specs.Means as means
-use Rattle.theory_definitions.specs.Guarded.{guarded_sense, guarded_within, node_unit, yes_unit}
+use Rattle.theory_definitions.specs.Guarded.{guarded_sense, guarded_units}
 use Rattle.theory_meaning.specs.Numbered.{subject_in}
 use Rattle.theory_meaning.proofs.NodeErrorsLead.{node_errors_lead}
 use Rattle.theory_meaning.proofs.UnitsLead.{node_units_lead}
@@ -88,7 +88,7 @@ module _ {S K R C M : Type 0} (resolver : Resolver S) (table : Table K) (matcher
 
   -- the units of the root's node, under a completion
   abbrev units_at : Bool → Data → Matcher → ℕ → Completion → Unit_
-  units_at texts instance m n c = guarded_within (yes_unit (numbered shape p.nodes)) (node_unit (words texts) m (numbered shape p.nodes) (subject_in instance) c) n p.root [] [] []
+  units_at texts instance m n c = guarded_units (words texts) m (numbered shape p.nodes) (subject_in instance) c n p.root [] [] []
 
   module _ (absorbed : K → List Text) (is_whole : K → Bool) (each : (texts : Bool) → EachKeepsAbsorbing (words texts) absorbed) (scripts : EachScript absorbed is_whole table)
       {nested : ℕ} where

@@ -13,7 +13,7 @@ use Rattle.theory_meaning.specs.Root.{IsRoot}
 use Rattle.theory_meaning.specs.Headline.{SpeaksRightly, Plainly, PlainlyWithUnits}
 use Rattle.theory_meaning.specs.ErrorsLead.{EachLeads}
 use Rattle.theory_meaning.specs.UnitsLead.{UnitsPoint}
-use Rattle.theory_definitions.specs.Guarded.{guarded_sense, guarded_within, node_unit, yes_unit}
+use Rattle.theory_definitions.specs.Guarded.{guarded_sense, guarded_units}
 use Rattle.theory_meaning.specs.Numbered.{subject_in}
 use Rattle.schema_node_table.specs.NodeTable.{numbered}
 use Rattle.schema_compiled.specs.Program.{HaveUnits, Program, Speaks, Means}
@@ -46,7 +46,7 @@ module _ {S K R : Type 0} (resolver : Resolver S) (table : Table K) (matcher : M
   -- its place in the schema
   abbrev pub UnitsPointFromKey : {C M : Type 0} → (C → K) → (M → Matcher) → Program C M → Type 0
   UnitsPointFromKey shape matching p = (instance : Data)
-      → OfKey instance (λ texts w root. (n : ℕ) (c : Completion) → UnitsPoint w root instance (guarded_within (yes_unit (numbered shape p.nodes)) (node_unit (words texts) (matching p.matcher) (numbered shape p.nodes) (subject_in instance) c) n p.root [] [] []))
+      → OfKey instance (λ texts w root. (n : ℕ) (c : Completion) → UnitsPoint w root instance (guarded_units (words texts) (matching p.matcher) (numbered shape p.nodes) (subject_in instance) c n p.root [] [] []))
 
 -- the same of every root key of the schema
 module _ {S K R : Type 0} (resolver : Resolver S) (table : Table K) (matcher : Matcher) (words : Bool → Keywords K R) (options : Options) (schema : Data) where
@@ -77,4 +77,4 @@ module _ {S K R : Type 0} (resolver : Resolver S) (table : Table K) (matcher : M
   -- of its place in the schema
   abbrev pub UnitsPointIntoSchema : {C M : Type 0} → (C → K) → (M → Matcher) → Program C M → Type 0
   UnitsPointIntoSchema shape matching p = (instance : Data)
-      → OfSchema instance (λ texts w root. (n : ℕ) (c : Completion) → UnitsPoint w root instance (guarded_within (yes_unit (numbered shape p.nodes)) (node_unit (words texts) (matching p.matcher) (numbered shape p.nodes) (subject_in instance) c) n p.root [] [] []))
+      → OfSchema instance (λ texts w root. (n : ℕ) (c : Completion) → UnitsPoint w root instance (guarded_units (words texts) (matching p.matcher) (numbered shape p.nodes) (subject_in instance) c n p.root [] [] []))

@@ -234,6 +234,8 @@ module _ {M : Type 0} (course : M → Subject → Course) where
     faults_read = λ s matches a b h. course_faults_read (spoken_by course texts m s) matches a b h;
     units_read = λ s matches a b h. course_units_read (spoken_by course texts m s) matches a b h;
     spans_read = λ s. All-nil _;
+    spans_stand = λ s. All-nil _;
+    told_spans = λ told s. All-nil _;
     stands = λ s matches a. course_inside (spoken_by course texts m s) matches s a;
     passes = λ s matches a. course_passes (spoken_by course texts m s) matches a;
   }
@@ -243,7 +245,7 @@ module _ {M : Type 0} (course : M → Subject → Course) where
   CoursesGrow says = (m : M) (s : Subject) → says m ≡ true → CourseGrows (course m s)
 
   pub courses_grow : (says : M → Bool) → CoursesGrow says → (texts : Bool) (m : M) → says m ≡ true → IsMonotone (course_words course texts) m
-  courses_grow says grows texts m h s matches a b where_yes holds = spoken_grows texts (course m s) (grows m s h) matches a b where_yes holds
+  courses_grow says grows texts m h = record { untold = refl; grows = λ s matches a b where_yes holds. spoken_grows texts (course m s) (grows m s h) matches a b where_yes holds }
 
   pub courses_hand_units_on : (texts : Bool) → EachHandsUnitsOn (course_words course texts) (none_absorbed course)
   courses_hand_units_on texts m s matches u = record {

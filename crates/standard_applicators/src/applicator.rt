@@ -142,6 +142,8 @@ impl Validate for StandardApplicator {
 
     ghost function_laws = { course_function_laws course present };
 
+    ghost never_told = { λ texts m. refl };
+
     ghost grows = { courses_grow course says_monotone grows };
 
     ghost hands_units_on = { courses_hand_units_on course };

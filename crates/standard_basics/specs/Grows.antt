@@ -30,7 +30,7 @@ each_way_grows texts has_property_names s h = way_grows (way texts has_property_
 each_way_grows texts (applies a) s h = each_grows texts a s h
 
 pub basics_grow : (texts : Bool) (m : BasicShape) → says_monotone m ≡ true → IsMonotone (words texts) m
-basics_grow texts m h s matches a b where_yes holds = each_way_grows texts m s h matches a b where_yes holds
+basics_grow texts m h = record { untold = refl; grows = λ s matches a b where_yes holds. each_way_grows texts m s h matches a b where_yes holds }
 
 pub basics_hand_units_on : (texts : Bool) → EachHandsUnitsOn (words texts) none_absorbed
 basics_hand_units_on texts m s matches u =

@@ -238,6 +238,8 @@ functions_keep texts m = let laws : FunctionLaws (words_of way texts) m (nothing
   faults_read = laws.faults_read;
   units_read = laws.units_read;
   spans_read = laws.spans_read;
+  spans_stand = laws.spans_stand;
+  told_spans = laws.told_spans;
   stands = laws.stands;
   passes = laws.passes;
 }

@@ -323,6 +323,8 @@ impl Validate for BasicKeyword {
 
     ghost function_laws = { functions_keep };
 
+    ghost never_told = { λ texts m. refl };
+
     ghost grows = { basics_grow };
 
     ghost hands_units_on = { basics_hand_units_on };

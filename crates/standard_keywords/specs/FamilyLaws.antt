@@ -302,6 +302,8 @@ family_function_laws assertions applicators patterns formats basics laws_a laws_
   faults_read = laws.faults_read;
   units_read = laws.units_read;
   spans_read = laws.spans_read;
+  spans_stand = laws.spans_stand;
+  told_spans = laws.told_spans;
   stands = laws.stands;
   passes = laws.passes;
 }
@@ -313,6 +315,8 @@ family_function_laws assertions applicators patterns formats basics laws_a laws_
   faults_read = laws.faults_read;
   units_read = laws.units_read;
   spans_read = laws.spans_read;
+  spans_stand = laws.spans_stand;
+  told_spans = laws.told_spans;
   stands = laws.stands;
   passes = laws.passes;
 }
@@ -324,6 +328,8 @@ family_function_laws assertions applicators patterns formats basics laws_a laws_
   faults_read = laws.faults_read;
   units_read = laws.units_read;
   spans_read = laws.spans_read;
+  spans_stand = laws.spans_stand;
+  told_spans = laws.told_spans;
   stands = laws.stands;
   passes = laws.passes;
 }
@@ -335,6 +341,8 @@ family_function_laws assertions applicators patterns formats basics laws_a laws_
   faults_read = laws.faults_read;
   units_read = laws.units_read;
   spans_read = laws.spans_read;
+  spans_stand = laws.spans_stand;
+  told_spans = laws.told_spans;
   stands = laws.stands;
   passes = laws.passes;
 }
@@ -346,6 +354,8 @@ family_function_laws assertions applicators patterns formats basics laws_a laws_
   faults_read = laws.faults_read;
   units_read = laws.units_read;
   spans_read = laws.spans_read;
+  spans_stand = laws.spans_stand;
+  told_spans = laws.told_spans;
   stands = laws.stands;
   passes = laws.passes;
 }

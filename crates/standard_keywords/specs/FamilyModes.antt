@@ -5,6 +5,7 @@ use Rattle.theory_definitions.specs.Instance.{Subject, Text}
 use Rattle.theory_definitions.specs.Keywords.{Answer, Keywords, Reply, no_reply}
 use Rattle.theory_definitions.specs.Remembering.{AlwaysAsksVerdict, EachAsksVerdicts}
 use Rattle.theory_meaning.specs.Greatest.{IsMonotone}
+use Rattle.theory_meaning.specs.Untold.{NeverTold}
 use Rattle.theory_meaning.specs.UnitsLead.{EachHandsUnitsOn}
 use Rattle.schema_traits.specs.UnitQuestions.{AlwaysAsksForLess, AsksNoUnits}
 use Rattle.standard_keywords.specs.Families.{by_family}
@@ -88,11 +89,18 @@ module _ {MA ML MP MF MB RA RL RP RF RB : Type 0} (assertions : Bool → Keyword
       → ((texts : Bool) (m : MF) → says_f m ≡ true → IsMonotone (formats texts) m)
       → ((texts : Bool) (m : MB) → says_b m ≡ true → IsMonotone (basics texts) m)
       → (texts : Bool) (m : Family MA ML MP MF MB) → by_family says_a says_l says_p says_f says_b m ≡ true → IsMonotone (words texts) m
-  family_grows a l p f b texts (Assertion m) says = a texts m says
-  family_grows a l p f b texts (Applicator m) says = l texts m says
-  family_grows a l p f b texts (PatternProperties m) says = p texts m says
-  family_grows a l p f b texts (Format m) says = f texts m says
-  family_grows a l p f b texts (Basic m) says = b texts m says
+  family_grows a l p f b texts (Assertion m) says = let h = a texts m says in record { untold = h.untold; grows = h.grows }
+  family_grows a l p f b texts (Applicator m) says = let h = l texts m says in record { untold = h.untold; grows = h.grows }
+  family_grows a l p f b texts (PatternProperties m) says = let h = p texts m says in record { untold = h.untold; grows = h.grows }
+  family_grows a l p f b texts (Format m) says = let h = f texts m says in record { untold = h.untold; grows = h.grows }
+  family_grows a l p f b texts (Basic m) says = let h = b texts m says in record { untold = h.untold; grows = h.grows }
+
+  pub family_never_told : ((texts : Bool) → NeverTold (assertions texts)) → ((texts : Bool) → NeverTold (applicators texts)) → ((texts : Bool) → NeverTold (patterns texts)) → ((texts : Bool) → NeverTold (formats texts)) → ((texts : Bool) → NeverTold (basics texts)) → (texts : Bool) → NeverTold (words texts)
+  family_never_told a l p f b texts (Assertion m) = a texts m
+  family_never_told a l p f b texts (Applicator m) = l texts m
+  family_never_told a l p f b texts (PatternProperties m) = p texts m
+  family_never_told a l p f b texts (Format m) = f texts m
+  family_never_told a l p f b texts (Basic m) = b texts m
 
   pub family_hands_units_on : {absorbed_a : MA → List Text} {absorbed_l : ML → List Text} {absorbed_p : MP → List Text} {absorbed_f : MF → List Text} {absorbed_b : MB → List Text}
       → ((texts : Bool) → EachHandsUnitsOn (assertions texts) absorbed_a)

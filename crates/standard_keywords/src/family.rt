@@ -26,7 +26,7 @@ impl<A: Validate, L: Validate, P: Validate, F: Validate, B: Validate> Validate
     ghost use Rattle.std.specs.Prelude.{refl};
     ghost use Rattle.standard_keywords.specs.Families.{by_family, in_family};
     ghost use Rattle.standard_keywords.specs.FamilyLaws.{family_function_laws, family_turn_laws};
-    ghost use Rattle.standard_keywords.specs.FamilyModes.{family_asks_no_units, family_asks_verdicts, family_grows, family_hands_units_on};
+    ghost use Rattle.standard_keywords.specs.FamilyModes.{family_asks_no_units, family_asks_verdicts, family_grows, family_hands_units_on, family_never_told};
     ghost use Rattle.standard_keywords.specs.FamilyWords.{family_can_be, family_ends, family_fits, family_left, family_words};
 
     type Run = Family<A::Run, L::Run, P::Run, F::Run, B::Run>;
@@ -150,6 +150,9 @@ impl<A: Validate, L: Validate, P: Validate, F: Validate, B: Validate> Validate
 
     ghost function_laws = { family_function_laws A.words L.words P.words F.words B.words
         A.function_laws L.function_laws P.function_laws F.function_laws B.function_laws };
+
+    ghost never_told = { family_never_told A.words L.words P.words F.words B.words
+        A.never_told L.never_told P.never_told F.never_told B.never_told };
 
     ghost grows = { family_grows A.words L.words P.words F.words B.words A.grows L.grows P.grows F.grows B.grows };
 

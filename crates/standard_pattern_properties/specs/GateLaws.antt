@@ -423,13 +423,18 @@ module _ {M : Type 0} (gates_of : M → List Gate) (form_of : M → Form) (names
     faults_read = λ s matches a b h. way_faults_read (gated_way texts m s matches) matches a b (open_all (λ q. a q ≡ b q) texts (form_of m) matches (gated_in m s) h);
     units_read = λ s matches a b h. way_units_read (gated_way texts m s matches) matches a b (open_all (λ q. a q ≡ b q) texts (form_of m) matches (gated_in m s) h);
     spans_read = λ s. All-nil _;
+    spans_stand = λ s. All-nil _;
+    told_spans = λ told s. All-nil _;
     stands = λ s matches a. way_stands_inside (gated_way texts m s matches) matches s [] a;
     passes = λ s matches a. All-weaker (PassesUnchanged a (questions (gated_way texts m s matches))) (PassesUnchanged a (asked_of (form_of m) (gated_in m s)))
         (wider a (questions (gated_way texts m s matches)) (asked_of (form_of m) (gated_in m s)) (open_inside texts m s matches)) _ (way_passes (gated_way texts m s matches) matches a);
   }
 
   pub gated_grows : (texts : Bool) (m : M) → IsMonotone (gated_words texts) m
-  gated_grows texts m s matches a b where_yes h = way_grows (gated_way texts m s matches) (grows_by texts (form_of m) (open_ones matches (gated_in m s))) matches a b where_yes h
+  gated_grows texts m = record {
+    untold = refl;
+    grows = λ s matches a b where_yes h. way_grows (gated_way texts m s matches) (grows_by texts (form_of m) (open_ones matches (gated_in m s))) matches a b where_yes h;
+  }
 
   pub gated_hands_on : (texts : Bool) → EachHandsUnitsOn (gated_words texts) gated_absorbed
   gated_hands_on texts m s matches u = record {

@@ -528,6 +528,8 @@ impl Validate for GatedKeyword {
 
     ghost function_laws = { gated_functions gates_of form_of names_of };
 
+    ghost never_told = { λ texts m. refl };
+
     ghost grows = { λ texts m h. gated_grows gates_of form_of names_of texts m };
 
     ghost hands_units_on = { gated_hands_on gates_of form_of names_of };

@@ -227,6 +227,8 @@ once_functions texts m = record {
   units_read = λ s matches a b h. ap (unit_of texts) (both_same (λ q. (report_of (a q)).valid) (λ q. (report_of (b q)).valid)
       (All-weaker (λ q. a q ≡ b q) (λ q. (report_of (a q)).valid ≡ (report_of (b q)).valid) (λ q e. ap (λ u. (report_of u).valid) e) both h));
   spans_read = λ s. All-nil _;
+  spans_stand = λ s. All-nil _;
+  told_spans = λ told s. All-nil _;
   stands = λ s matches a. refusals_stand texts s ((a (child_at 0)).verdict && (a (child_at 1)).verdict);
   passes = λ s matches a. refusals_pass texts a both ((a (child_at 0)).verdict && (a (child_at 1)).verdict);
 }
@@ -270,8 +272,10 @@ both_stay true y v w first second h = ap₂ (λ p q. p && q) (first refl) (secon
 both_stay false y v w first second h = absurd (let f : ⊥ = cc in f)
 
 pub once_grows : (texts : Bool) (m : ⊤) → true ≡ true → IsMonotone (once_words texts) m
-once_grows texts m h s matches a b where_yes holds =
-    both_stay (a (child_at 0)) (a (child_at 1)) (b (child_at 0)) (b (child_at 1)) (where_yes (child_at 0)) (where_yes (child_at 1)) holds
+once_grows texts m h = record {
+  untold = refl;
+  grows = λ s matches a b where_yes holds. both_stay (a (child_at 0)) (a (child_at 1)) (b (child_at 0)) (b (child_at 1)) (where_yes (child_at 0)) (where_yes (child_at 1)) holds;
+}
 
 pub once_hands_on : (texts : Bool) → EachHandsUnitsOn (once_words texts) once_absorbed
 once_hands_on texts m s matches u = record { own = All-nil _; absorbed = All-nil _ }

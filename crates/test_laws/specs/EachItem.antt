@@ -198,6 +198,8 @@ each_functions texts m = record {
   units_read = λ s matches a b h. ap (unit_of texts) (all_same (λ q. (report_of (a q)).valid) (λ q. (report_of (b q)).valid) (all_items s)
       (All-weaker (λ q. a q ≡ b q) (λ q. (report_of (a q)).valid ≡ (report_of (b q)).valid) (λ q e. ap (λ u. (report_of u).valid) e) (all_items s) h));
   spans_read = λ s. All-nil _;
+  spans_stand = λ s. All-nil _;
+  told_spans = λ told s. All-nil _;
   stands = λ s matches a. refusals_stand texts s (holds_by s (λ q. (a q).verdict));
   passes = λ s matches a. refusals_pass texts a (all_items s) (holds_by s (λ q. (a q).verdict));
 }
@@ -229,7 +231,7 @@ each_verdicts texts m s = always_verdicts texts m s (item_count s + 1) ((item_co
 -- ---- it is monotone, since all items have to accept, and passes no units on
 
 pub each_grows : (texts : Bool) (m : ⊤) → true ≡ true → IsMonotone (each_words texts) m
-each_grows texts m h s matches a b where_yes holds = way_grows (passes_on (all_items s)) refl matches a b where_yes holds
+each_grows texts m h = record { untold = refl; grows = λ s matches a b where_yes holds. way_grows (passes_on (all_items s)) refl matches a b where_yes holds }
 
 pub each_hands_on : (texts : Bool) → EachHandsUnitsOn (each_words texts) each_absorbed
 each_hands_on texts m s matches u = record { own = All-nil _; absorbed = All-nil _ }

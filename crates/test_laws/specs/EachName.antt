@@ -173,6 +173,8 @@ name_functions texts m = record {
   faults_read = λ s matches a b h. refl;
   units_read = λ s matches a b h. refl;
   spans_read = λ s. All-nil _;
+  spans_stand = λ s. All-nil _;
+  told_spans = λ told s. All-nil _;
   stands = λ s matches a. refusals_stand texts s (holds_by m s matches);
   passes = λ s matches a. refusals_pass texts a [] (holds_by m s matches);
 }
@@ -204,7 +206,7 @@ name_verdicts texts m s = always_verdicts texts m s (length (subject_names s) + 
 -- ---- its verdict does not depend on an answer, and it passes no units on
 
 pub name_grows : (texts : Bool) (m : Text) → true ≡ true → IsMonotone (name_words texts) m
-name_grows texts m h s matches a b where_yes holds = holds
+name_grows texts m h = record { untold = refl; grows = λ s matches a b where_yes holds. holds }
 
 pub name_hands_on : (texts : Bool) → EachHandsUnitsOn (name_words texts) name_absorbed
 name_hands_on texts m s matches u = record { own = All-nil _; absorbed = All-nil _ }

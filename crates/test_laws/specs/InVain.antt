@@ -97,6 +97,8 @@ vain_functions asked texts m = record {
   faults_read = λ s matches a b h. refl;
   units_read = λ s matches a b h. refl;
   spans_read = λ s. All-nil _;
+  spans_stand = λ s. All-nil _;
+  told_spans = λ told s. All-nil _;
   stands = λ s matches a. All-nil _;
   passes = λ s matches a. All-nil _;
 }
@@ -140,7 +142,7 @@ vain_verdicts texts m s = always_verdicts texts m s 2 (false, fresh for_verdict)
 -- ---- its verdict does not depend on an answer, and it passes no units on
 
 pub vain_grows : (asked : Mode) (texts : Bool) (m : ⊤) → true ≡ true → IsMonotone (vain_words asked texts) m
-vain_grows asked texts m h s matches a b where_yes holds = holds
+vain_grows asked texts m h = record { untold = refl; grows = λ s matches a b where_yes holds. holds }
 
 pub vain_hands_on : (asked : Mode) (texts : Bool) → EachHandsUnitsOn (vain_words asked texts) vain_absorbed
 vain_hands_on asked texts m s matches u = record { own = All-nil _; absorbed = All-nil _ }

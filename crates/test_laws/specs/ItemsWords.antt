@@ -61,7 +61,10 @@ items_verdicts = marking.asks_verdicts marks (own_words ways) (λ (r : Progress 
 
 -- each of them passes its child's answer on or reports its own, so it is monotone
 pub items_grows : (texts : Bool) (m : ItemsPlan) → true ≡ true → IsMonotone (items_words texts) m
-items_grows texts m h s matches a b where_yes holds = own_grow ways (λ _. true) (plans_grow planned name told (λ _. true) items_plans_grow) texts m h s matches a b where_yes holds
+items_grows texts m h = record {
+  untold = refl;
+  grows = λ s matches a b where_yes holds. (own_grow ways (λ _. true) (plans_grow planned name told (λ _. true) items_plans_grow) texts m h).grows s matches a b where_yes holds;
+}
 
 pub items_hand_on : (texts : Bool) → EachHandsUnitsOn (items_words texts) items_absorbed
 items_hand_on texts m s matches u =

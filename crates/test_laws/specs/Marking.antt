@@ -270,6 +270,8 @@ module _ {M P : Type 0} (marks : M → Bool) (other : Bool → Keywords M (P × 
           faults_read = l.faults_read;
           units_read = l.units_read;
           spans_read = l.spans_read;
+          spans_stand = l.spans_stand;
+          told_spans = l.told_spans;
           stands = l.stands;
           passes = l.passes;
         }

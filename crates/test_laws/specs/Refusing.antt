@@ -78,6 +78,8 @@ refusing_functions texts m = record {
   faults_read = λ s matches a b h. refl;
   units_read = λ s matches a b h. refl;
   spans_read = λ s. All-nil _;
+  spans_stand = λ s. All-nil _;
+  told_spans = λ told s. All-nil _;
   stands = λ s matches a. All-cons (StandsInside s []) (refusal texts) [] (refl, ([], refl), tt) (All-nil _);
   passes = λ s matches a. All-cons (PassesUnchanged a []) (refusal texts) [] tt (All-nil _);
 }

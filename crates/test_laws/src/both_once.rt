@@ -122,6 +122,8 @@ impl Validate for BothOnce {
 
     ghost function_laws = { once_functions };
 
+    ghost never_told = { λ texts m. refl };
+
     ghost grows = { once_grows };
 
     ghost hands_units_on = { once_hands_on };

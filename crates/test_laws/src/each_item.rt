@@ -92,6 +92,8 @@ impl Validate for EachItem {
 
     ghost function_laws = { each_functions };
 
+    ghost never_told = { λ texts m. refl };
+
     ghost grows = { each_grows };
 
     ghost hands_units_on = { each_hands_on };

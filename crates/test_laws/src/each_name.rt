@@ -153,6 +153,8 @@ impl Validate for EachName {
 
     ghost function_laws = { name_functions };
 
+    ghost never_told = { λ texts m. refl };
+
     ghost grows = { name_grows };
 
     ghost hands_units_on = { name_hands_on };

@@ -71,6 +71,8 @@ impl Validate for InVain {
 
     ghost function_laws = { vain_functions spec.for_verdict };
 
+    ghost never_told = { λ texts m. refl };
+
     ghost grows = { vain_grows spec.for_verdict };
 
     ghost hands_units_on = { vain_hands_on spec.for_verdict };

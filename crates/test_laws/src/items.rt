@@ -75,6 +75,8 @@ impl PlannedKeyword for ItemsPlan {
         true
     }
 
+    ghost never_told = { λ texts m. refl };
+
     ghost grows = { items_plans_grow };
 }
 

@@ -67,6 +67,8 @@ impl Validate for Refusing {
 
     ghost function_laws = { refusing_functions };
 
+    ghost never_told = { λ texts m. refl };
+
     ghost grows = { refusing_grows };
 
     ghost hands_units_on = { refusing_hands_on };

@@ -10,7 +10,7 @@ use Rattle.standard_basics.specs.Words.{words}
 use Rattle.test_parts.specs.Detours.{Detour, detour_words, nothing_absorbed}
 
 pub detour_grows : (texts : Bool) (m : Detour) → says_monotone m.1 ≡ true → IsMonotone (detour_words texts) m
-detour_grows texts m h s matches a b where_yes holds = basics_grow texts m.1 h s matches a b where_yes holds
+detour_grows texts m h = let inner : IsMonotone (words texts) m.1 = basics_grow texts m.1 h in record { untold = inner.untold; grows = λ s matches a b where_yes holds. inner.grows s matches a b where_yes holds }
 
 pub detour_hands_on : (texts : Bool) → EachHandsUnitsOn (detour_words texts) nothing_absorbed
 detour_hands_on texts m s matches u =

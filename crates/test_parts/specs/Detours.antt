@@ -230,6 +230,8 @@ detour_functions texts m =
       faults_read = own.faults_read;
       units_read = own.units_read;
       spans_read = own.spans_read;
+      spans_stand = own.spans_stand;
+      told_spans = own.told_spans;
       stands = own.stands;
       passes = own.passes;
     }

@@ -148,6 +148,8 @@ impl Validate for DetourKeyword {
 
     ghost function_laws = { detour_functions };
 
+    ghost never_told = { λ texts m. refl };
+
     ghost grows = { detour_grows };
 
     ghost hands_units_on = { detour_hands_on };

@@ -1,15 +1,15 @@
 -- What numbered nodes say, if a node that is asked again at a place where it is still in progress
 -- answers yes.
 use Rattle.std.specs.List.{list_any}
-use Rattle.std.specs.Prelude.{Bool, List, None, Option, Some, [], false, filter_map, flat_map, not, option_and_then, slice_get, suc, true, zero, ℕ, ◌&&◌, ◌++◌, ◌==◌, ◌||◌, ◌∷◌, ◌≡◌, ◌≤◌}
+use Rattle.std.specs.Prelude.{Bool, List, None, Option, Some, [], false, filter_map, flat_map, not, option_and_then, slice_get, suc, true, if◌then◌else◌, zero, ℕ, ◌&&◌, ◌++◌, ◌==◌, ◌||◌, ◌∷◌, ◌≡◌, ◌≤◌}
 use Rattle.serde_json.specs.Data.{Data}
-use Rattle.theory_definitions.specs.Instance.{Place, Subject, Text}
-use Rattle.theory_definitions.specs.Reports.{Outcome, Unit_, accepted}
-use Rattle.theory_definitions.specs.Matching.{Assumptions, Completion, Matcher, completion_of, matching}
+use Rattle.theory_definitions.specs.Instance.{Place, Step, Subject, Text}
+use Rattle.theory_definitions.specs.Reports.{Outcome, Unit_, accepted, spans_nothing}
+use Rattle.theory_definitions.specs.Matching.{Assumptions, Completion, Matcher, beside, completion_of, matching}
 use Rattle.theory_definitions.specs.Keywords.{Below, Keywords, Marked, Mode, Question, a_child, a_reservation, down, here}
-use Rattle.theory_definitions.specs.Meaning.{Where, both, false_outcome, kept, keyword_outcome, place_below, reference_outcome}
-use Rattle.theory_definitions.specs.Units.{Entry, PartUnits, false_unit, keyword_units, no_unit, plan_unit, reference_units, true_unit}
-use Rattle.theory_definitions.specs.Runs.{Looked, Met, Run, keyword_met, no_run, plan_met}
+use Rattle.theory_definitions.specs.Meaning.{Where, both, either_spans, false_outcome, kept, keyword_outcome, told_of, place_below, reference_outcome}
+use Rattle.theory_definitions.specs.Units.{Entry, PartUnits, Valued, false_unit, keyword_units, no_unit, plan_unit, reference_units, true_unit}
+use Rattle.theory_definitions.specs.Runs.{Looked, Met, Run, keyword_met, no_run, node_met, plan_spanning, spanning_met}
 use Rattle.theory_definitions.specs.Cover.{Sense, mode_of}
 
 -- An edge to a node: its number, what the edge adds to the evaluation path, and whether it is
@@ -99,7 +99,11 @@ yes_unit nodes i path p = true_unit (record { place = p; path = path; location =
 
 -- A run that accepts and meets nothing.
 abbrev pub yes_run : {K : Type 0} → Nodes K → ℕ → Text → Place → Run
-yes_run nodes i path p = record { outcome = λ t. accepted; units = λ t. yes_unit nodes i path p; met = λ m. [] }
+yes_run nodes i path p = record { outcome = λ t. accepted; units = λ t. yes_unit nodes i path p; met = λ m. []; spanning = [] }
+
+-- An accepting outcome with a valid unit.
+abbrev pub yes_valued : {K : Type 0} → Nodes K → ℕ → Text → Place → Valued
+yes_valued nodes i path p = record { outcome = accepted; units = yes_unit nodes i path p }
 
 -- `X` is the type of an answer: an outcome, units, or a whole run. `yes` is the answer of a pair in
 -- progress.
@@ -119,6 +123,11 @@ module _ {X : Type 0} (yes : ℕ → Text → Place → X) (node : ℕ → Text 
   guarded_within zero i path p busy = yes i path p
   guarded_within (suc n) i path p busy = node i path p (across (guarded_within n) path p busy)
 
+-- Whether an entry of a node is told what the others span.
+abbrev pub node_told : {K R : Type 0} → Keywords K R → NodeForm K → Bool
+node_told keywords (node_keyword m es) = keywords.is_told m
+node_told keywords (node_reference e) = false
+
 module _ {K R : Type 0} (keywords : Keywords K R) (matcher : Matcher) (nodes : Nodes K) (subject_of : Place → Subject) where
   -- The context of a node at an evaluation path and a place.
   abbrev pub node_at : ℕ → Text → Place → Where
@@ -129,19 +138,24 @@ module _ {K R : Type 0} (keywords : Keywords K R) (matcher : Matcher) (nodes : N
   node_asked none es go q = elim (node_child es q.child) [ None ↦ none | Some e ↦ go e q.below ]
 
   module _ (c : Completion) where
-    -- The outcome of a keyword or a reference of a node.
-    abbrev pub node_part : ℕ → Text → Place → (NodeEdge → Below → Outcome) → Text → NodeForm K → Outcome
-    node_part i path p go name (node_keyword m es) = keyword_outcome keywords (node_at i path p) name m (subject_of p) (matching matcher c) (node_asked accepted es go)
-    node_part i path p go name (node_reference e) = reference_outcome (node_at i path p) name (go e here)
+    -- The outcome of a keyword or a reference of a node, if the others span these steps.
+    abbrev pub node_part : ℕ → Text → Place → (NodeEdge → Below → Outcome) → (Step → Bool) → Text → NodeForm K → Outcome
+    node_part i path p go others name (node_keyword m es) = keyword_outcome keywords (node_at i path p) name m (subject_of p) (beside others (matching matcher c)) (node_asked accepted es go)
+    node_part i path p go others name (node_reference e) = reference_outcome (node_at i path p) name (go e here)
 
-    -- The outcome of several entries together.
-    abbrev pub node_parts : ℕ → Text → Place → (NodeEdge → Below → Outcome) → List (NodePart K) → Outcome
-    node_parts i path p go [] = accepted
-    node_parts i path p go (x ∷ xs) = both (node_part i path p go x.name x.form) (node_parts i path p go xs)
+    -- What the entries that are not told span together.
+    abbrev pub node_others : ℕ → Text → Place → (NodeEdge → Below → Outcome) → List (NodePart K) → Step → Bool
+    node_others i path p go [] = spans_nothing
+    node_others i path p go (x ∷ xs) = either_spans (if node_told keywords x.form then spans_nothing else (node_part i path p go spans_nothing x.name x.form).spans) (node_others i path p go xs)
+
+    -- The outcome of all these keywords and references together.
+    abbrev pub node_parts : ℕ → Text → Place → (NodeEdge → Below → Outcome) → (Step → Bool) → List (NodePart K) → Outcome
+    node_parts i path p go others [] = accepted
+    node_parts i path p go others (x ∷ xs) = both (node_part i path p go (told_of others (node_told keywords x.form)) x.name x.form) (node_parts i path p go others xs)
 
     -- The outcome of a node, given the outcomes of its edges.
     abbrev pub node_outcome : ℕ → Text → Place → (NodeEdge → Below → Outcome) → Outcome
-    node_outcome i path p go = elim (nodes.entries i) [ node_always ↦ accepted | node_never ↦ false_outcome keywords.texts (node_at i path p) (subject_of p) | node_these xs ↦ kept (node_parts i path p go xs) ]
+    node_outcome i path p go = elim (nodes.entries i) [ node_always ↦ accepted | node_never ↦ false_outcome keywords.texts (node_at i path p) (subject_of p) | node_these xs ↦ kept (node_parts i path p go (node_others i path p go xs) xs) ]
 
     -- What a node says at a place while these nodes are in progress there: the outcome that every
     -- depth yields from some depth on.
@@ -150,40 +164,63 @@ module _ {K R : Type 0} (keywords : Keywords K R) (matcher : Matcher) (nodes : N
 
     -- ---- the units of a node
 
-    -- The units of a keyword or a reference of a node.
-    abbrev pub node_part_units : ℕ → Text → Place → (NodeEdge → Below → Unit_) → Text → NodeForm K → PartUnits
-    node_part_units i path p go name (node_keyword m es) = keyword_units keywords (node_at i path p) name m (subject_of p) (matching matcher c) (node_asked no_unit es go)
-    node_part_units i path p go name (node_reference e) = reference_units (node_at i path p) name (go e here)
+    -- The units of a keyword or a reference of a node, if the others span these steps.
+    abbrev pub node_part_units : ℕ → Text → Place → (NodeEdge → Below → Unit_) → (Step → Bool) → Text → NodeForm K → PartUnits
+    node_part_units i path p go others name (node_keyword m es) = keyword_units keywords (node_at i path p) name m (subject_of p) (beside others (matching matcher c)) (node_asked no_unit es go)
+    node_part_units i path p go others name (node_reference e) = reference_units (node_at i path p) name (go e here)
 
-    -- The units of several entries, each with its priority.
-    abbrev pub node_entries_of : ℕ → Text → Place → (NodeEdge → Below → Unit_) → List (NodePart K) → List Entry
-    node_entries_of i path p go [] = []
-    node_entries_of i path p go (x ∷ xs) = record { priority = x.priority; units = node_part_units i path p go x.name x.form } ∷ node_entries_of i path p go xs
+    -- The entries of a node with their units.
+    abbrev pub node_entries_of : ℕ → Text → Place → (NodeEdge → Below → Unit_) → (Step → Bool) → List (NodePart K) → List Entry
+    node_entries_of i path p go others [] = []
+    node_entries_of i path p go others (x ∷ xs) = record { priority = x.priority; units = node_part_units i path p go (told_of others (node_told keywords x.form)) x.name x.form } ∷ node_entries_of i path p go others xs
 
-    -- The unit of a node, given the units of its edges.
-    abbrev pub node_unit : ℕ → Text → Place → (NodeEdge → Below → Unit_) → Unit_
-    node_unit i path p go = elim (nodes.entries i) [ node_always ↦ true_unit (node_at i path p) | node_never ↦ false_unit keywords.texts (node_at i path p) (subject_of p) | node_these xs ↦ plan_unit (node_at i path p) (nodes.annotations i) (node_entries_of i path p go xs) ]
+    -- The unit of a node, given the outcomes and the units of its edges.
+    abbrev pub node_unit : ℕ → Text → Place → (NodeEdge → Below → Outcome) → (NodeEdge → Below → Unit_) → Unit_
+    node_unit i path p says go = elim (nodes.entries i) [ node_always ↦ true_unit (node_at i path p) | node_never ↦ false_unit keywords.texts (node_at i path p) (subject_of p) | node_these xs ↦ plan_unit (node_at i path p) (nodes.annotations i) (node_entries_of i path p go (node_others i path p says xs) xs) ]
+
+    -- Both together.
+    abbrev pub node_valued : ℕ → Text → Place → (NodeEdge → Below → Valued) → Valued
+    node_valued i path p go = record { outcome = node_outcome i path p (λ e b. (go e b).outcome); units = node_unit i path p (λ e b. (go e b).outcome) (λ e b. (go e b).units) }
+
+    -- The unit of a node at a place while these nodes are in progress there, at a depth.
+    abbrev pub guarded_units : ℕ → ℕ → Text → Place → List ℕ → Unit_
+    guarded_units n i path p busy = (guarded_within (yes_valued nodes) node_valued n i path p busy).units
 
   -- ---- the unfinished matches that a node's run meets
 
   module _ (as' : Assumptions) where
     -- The unfinished matches that a keyword or a reference of a node meets.
-    abbrev pub node_part_met : ℕ → Text → Place → (NodeEdge → Below → Run) → Text → NodeForm K → Mode → List Met
-    node_part_met i path p go name (node_keyword m es) mode = keyword_met keywords matcher as' (node_at i path p) (subject_of p) (node_asked no_run es go) (same_edge es) name m mode
-    node_part_met i path p go name (node_reference e) mode = (go e here).met mode
+    abbrev pub node_part_met : ℕ → Text → Place → (NodeEdge → Below → Run) → (Step → Bool) → Text → NodeForm K → Mode → List Met
+    node_part_met i path p go others name (node_keyword m es) mode = keyword_met keywords matcher as' (node_at i path p) (subject_of p) (node_asked no_run es go) others (same_edge es) name m mode
+    node_part_met i path p go others name (node_reference e) mode = (go e here).met mode
+
+    -- What its run for its span meets.
+    abbrev pub node_part_spanning : ℕ → Text → Place → (NodeEdge → Below → Run) → Text → NodeForm K → List Met
+    node_part_spanning i path p go name (node_keyword m es) = spanning_met keywords matcher as' (node_at i path p) (subject_of p) (node_asked no_run es go) (same_edge es) name m
+    node_part_spanning i path p go name (node_reference e) = (go e here).spanning
+
+    -- The entries of a node, with what their runs meet, if the others span these steps.
+    abbrev pub node_looked : ℕ → Text → Place → (NodeEdge → Below → Run) → (Step → Bool) → List (NodePart K) → List Looked
+    node_looked i path p go others [] = []
+    node_looked i path p go others (x ∷ xs) = record {
+      is_leaf = x.is_leaf;
+      is_told = node_told keywords x.form;
+      holds = (node_part (completion_of as') i path p (λ e b. (go e b).outcome tt) (told_of others (node_told keywords x.form)) x.name x.form).verdict;
+      met = node_part_met i path p go (told_of others (node_told keywords x.form)) x.name x.form;
+      spanning = node_part_spanning i path p go x.name x.form;
+    } ∷ node_looked i path p go others xs
 
     -- The entries of a node, with what their runs meet.
-    abbrev pub node_looked : ℕ → Text → Place → (NodeEdge → Below → Run) → List (NodePart K) → List Looked
-    node_looked i path p go [] = []
-    node_looked i path p go (x ∷ xs) = record { is_leaf = x.is_leaf; holds = (node_part (completion_of as') i path p (λ e b. (go e b).outcome tt) x.name x.form).verdict; met = node_part_met i path p go x.name x.form }
-        ∷ node_looked i path p go xs
+    abbrev pub node_looked_at : ℕ → Text → Place → (NodeEdge → Below → Run) → List (NodePart K) → List Looked
+    node_looked_at i path p go xs = node_looked i path p go (node_others (completion_of as') i path p (λ e b. (go e b).outcome tt) xs) xs
 
     -- The run of a node, given the runs of its edges.
     abbrev pub guarded_node : ℕ → Text → Place → (NodeEdge → Below → Run) → Run
     guarded_node i path p go = record {
       outcome = λ t. node_outcome (completion_of as') i path p (λ e b. (go e b).outcome tt);
-      units = λ t. node_unit (completion_of as') i path p (λ e b. (go e b).units tt);
-      met = λ mode. elim (nodes.entries i) [ node_always ↦ [] | node_never ↦ [] | node_these xs ↦ plan_met mode (node_looked i path p go xs) ];
+      units = λ t. node_unit (completion_of as') i path p (λ e b. (go e b).outcome tt) (λ e b. (go e b).units tt);
+      met = λ mode. elim (nodes.entries i) [ node_always ↦ [] | node_never ↦ [] | node_these xs ↦ node_met mode (node_looked_at i path p go xs) ];
+      spanning = elim (nodes.entries i) [ node_always ↦ [] | node_never ↦ [] | node_these xs ↦ plan_spanning (node_looked_at i path p go xs) ];
     }
 
   -- The sense of a node, which the headline uses if chains of questions return to where they were.

@@ -2,7 +2,7 @@
 -- it finds, what it spans, and how a run of it proceeds turn by turn. A child is named by the number
 -- of the request by which the keyword's maker obtained it. (Core 2020-12, 7.1, 10 and 11)
 use Rattle.std.specs.List.{list_all, list_any}
-use Rattle.std.specs.Prelude.{Bool, List, None, Option, Some, [], false, true, ℕ, ◌&&◌, ◌++◌, ◌||◌, ◌∷◌}
+use Rattle.std.specs.Prelude.{Bool, List, Option, None, Some, [], false, true, ℕ, ◌&&◌, ◌||◌, ◌==◌, ◌++◌, ◌∷◌}
 use Rattle.serde_json.specs.Data.{Data}
 use Rattle.theory_definitions.specs.Instance.{Place, Step, Subject, Text, same_step}
 use Rattle.theory_definitions.specs.Reports.{Described, Error, Outcome, Unit_}
@@ -155,6 +155,25 @@ span_questions (one_matched a point s) = []
 span_questions (one_accepted i s) = child_at i s ∷ []
 span_questions (of_child i) = child_here i ∷ []
 span_questions (of_choice i first second) = child_here i ∷ (chosen_here first ++ chosen_here second)
+
+-- The questions among these that a run for a span asks, by the verdict of the condition.
+abbrev pub span_asked : (Question → Bool) → Span → List Question
+span_asked accepts every = []
+span_asked accepts (one s) = []
+span_asked accepts (one_matched a point s) = []
+span_asked accepts (one_accepted i s) = child_at i s ∷ []
+span_asked accepts (of_child i) = child_here i ∷ []
+span_asked accepts (of_choice i first second) = child_here i ∷ chosen_here (chosen (accepts (child_here i)) first second)
+
+-- The same place, relative to a keyword.
+abbrev pub same_below : Below → Below → Bool
+same_below here here = true
+same_below (down s) (down t) = same_step s t
+same_below _ _ = false
+
+-- The same child at the same place.
+abbrev pub same_question : Question → Question → Bool
+same_question a b = (a.child == b.child) && same_below a.below b.below
 
 -- The answer at the end of a run, with the mode of the run.
 pub record Answer : Type 0 where

@@ -5,7 +5,7 @@ use Rattle.theory_definitions.specs.Instance.{Place, Subject, Text, subject_from
 use Rattle.theory_definitions.specs.Pointer.{pointer_to}
 use Rattle.theory_definitions.specs.Reports.{Outcome, Unit_, report_of}
 use Rattle.theory_definitions.specs.Matching.{Matching}
-use Rattle.theory_definitions.specs.Keywords.{Answer, Answers, Below, Fault, Keywords, Marked, Mode, Question, Reply, Spot, Turn, a_child, all_of_it, ask, done, down, ecma, all_valid, first_of_it, for_all, for_first, for_units, for_verdict, here, is_spanned, mark, match_text, no_reply, own, passed, span_questions, truth, unit_of_it, unmark}
+use Rattle.theory_definitions.specs.Keywords.{Answer, Answers, Below, Fault, Keywords, Marked, Mode, Question, Reply, Spot, Turn, a_child, all_of_it, ask, done, down, ecma, all_valid, every, first_of_it, for_all, for_first, for_units, for_verdict, here, is_spanned, mark, match_text, no_reply, one, own, passed, span_questions, truth, unit_of_it, unmark, Span, one_matched}
 use Rattle.theory_definitions.specs.Runs.{first_error, with_mark, without_last}
 
 -- The verdict is yes if and only if there is no error.
@@ -35,6 +35,17 @@ IsPresent s p = is_some (subject_from p s) ≡ true
 -- A location lies inside the instance, and at or below the keyword or one that it absorbs.
 abbrev pub SpotInside : Subject → List Text → Spot → Type 0
 SpotInside s absorbed spot = IsPresent s spot.below × ((path : Place) × (spot.path ≡ pointer_to path)) × (elim spot.absorbed [ None ↦ Unit {0} | Some name ↦ Contains absorbed name ])
+
+-- A match on which a span depends is requested at a location inside the keyword and the instance.
+abbrev pub SpanInside : Subject → List Text → Span → Type 0
+SpanInside s absorbed (one_matched a point step) = SpotInside s absorbed point.spot
+SpanInside s absorbed _ = Unit {0}
+
+-- A span that contains the same steps whatever the answers and the matches are.
+abbrev pub IsFixed : Span → Type 0
+IsFixed every = Unit {0}
+IsFixed (one step) = Unit {0}
+IsFixed _ = ⊥
 
 module _ {K R : Type 0} (keywords : Keywords K R) (m : K) (s : Subject) where
   -- The run ends in at most n more turns, whatever the replies are.
@@ -127,6 +138,9 @@ pub record KeepsLaws {K R : Type 0} (keywords : Keywords K R) (m : K) (absorbed 
       → keywords.units m s matches a ≡ keywords.units m s matches b
   -- What a keyword spans depends only on the answers to questions that it may ask.
   pub spans_read : (s : Subject) → All (λ p. All (Contains (keywords.may_ask m s)) (span_questions p)) (keywords.spans m s)
+  pub spans_stand : (s : Subject) → All (SpanInside s absorbed) (keywords.spans m s)
+  -- What a told keyword spans itself depends on no answer and no match.
+  pub told_spans : keywords.is_told m ≡ true → (s : Subject) → All IsFixed (keywords.spans m s)
   pub stands : (s : Subject) (matches : Matching) (a : Answers) → All (StandsInside s absorbed) (keywords.faults m s matches a)
   pub passes : (s : Subject) (matches : Matching) (a : Answers) → All (PassesUnchanged a (keywords.may_ask m s)) (keywords.faults m s matches a)
 

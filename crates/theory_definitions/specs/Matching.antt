@@ -56,9 +56,13 @@ abbrev pub settled : Bool → Match → Bool
 settled b (finished a) = a
 settled b (unfinished r) = b
 
--- The matches of a matcher under a completion. No keyword is told what others span.
+-- The matches of a matcher under a completion, with nothing spanned by others.
 abbrev pub matching : Matcher → Completion → Matching
 matching m c = record { matches = λ p s. settled (completed c (record { pattern = p; subject = s })) (m.is_match p s); is_ecma = m.is_ecma; spanned = spans_nothing }
+
+-- The same matches, if the others span these steps.
+abbrev pub beside : (Step → Bool) → Matching → Matching
+beside spanned matching = record matching { spanned = spanned }
 
 -- The outcome that is assumed for an unfinished pair.
 pub record Assumed : Type 0 where

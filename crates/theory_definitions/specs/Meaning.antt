@@ -7,10 +7,10 @@ use Rattle.std.specs.Prelude.{Bool, List, None, Option, Some, [], codes, false, 
 use Rattle.json.specs.Print.{quoted}
 use Rattle.serde_json.specs.Data.{Data, null}
 use Rattle.serde_json.specs.Written.{compact_text}
-use Rattle.theory_definitions.specs.Instance.{Place, Subject, Text, a_name, a_value, subject_at}
+use Rattle.theory_definitions.specs.Instance.{Place, Step, Subject, Text, a_name, a_value, subject_at}
 use Rattle.theory_definitions.specs.Pointer.{joined}
 use Rattle.theory_definitions.specs.Reports.{Error, Outcome, accepted, spans_nothing}
-use Rattle.theory_definitions.specs.Matching.{Completion, Matching, matching}
+use Rattle.theory_definitions.specs.Matching.{Completion, Matching, beside, matching}
 use Rattle.theory_definitions.specs.Making.{Request}
 use Rattle.theory_definitions.specs.Keywords.{Answers, Below, Fault, Keywords, Own, Question, down, here, keyword_spans, own, passed}
 use Rattle.theory_definitions.specs.Parts.{Parts}
@@ -79,9 +79,22 @@ false_outcome texts x s = record { verdict = false; errors = false_error texts x
 abbrev pub both : Outcome → Outcome → Outcome
 both a b = record { verdict = a.verdict && b.verdict; errors = a.errors ++ b.errors; spans = λ step. a.spans step || b.spans step }
 
+-- What an entry is told of the others: what they span if it is told, and nothing if not.
+abbrev pub told_of : (Step → Bool) → Bool → Step → Bool
+told_of others told = if told then others else spans_nothing
+
+-- Either of the two spans a step.
+abbrev pub either_spans : (Step → Bool) → (Step → Bool) → Step → Bool
+either_spans a b step = a step || b step
+
 -- The outcome of a schema: a schema that rejects spans nothing.
 abbrev pub kept : Outcome → Outcome
 kept o = record o { spans = λ step. o.verdict && o.spans step }
+
+-- Whether an entry is told what the others span. A reference is not.
+abbrev pub form_told : {K R : Type 0} → Keywords K R → Form K → Bool
+form_told keywords (keyword m requests absorbed) = keywords.is_told m
+form_told keywords (reference kind text) = false
 
 module _ {S K R : Type 0} (w : Parts S K R) (instance : Data) where
   -- The value or the name at a place, or `null` if there is none.
@@ -119,19 +132,24 @@ module _ {S K R : Type 0} (w : Parts S K R) (instance : Data) where
   at k path p = record { place = p; path = path; location = k.location; absolute = absolute_of w k }
 
   module _ (c : Completion) where
-    -- The outcome of one keyword or reference of a plan.
-    abbrev pub part_outcome : Key S → Text → Place → (Edge S → Place → Outcome) → Text → Form K → Outcome
-    part_outcome k path p ask name (keyword m requests absorbed) = keyword_outcome w.keywords (at k path p) name m (subject p) (matching w.matcher c) (asked accepted k name requests p ask)
-    part_outcome k path p ask name (reference kind text) = reference_outcome (at k path p) name (referred_to accepted k name kind text p ask)
+    -- The outcome of one keyword or reference of a plan, if the others span these steps.
+    abbrev pub part_outcome : Key S → Text → Place → (Edge S → Place → Outcome) → (Step → Bool) → Text → Form K → Outcome
+    part_outcome k path p ask others name (keyword m requests absorbed) = keyword_outcome w.keywords (at k path p) name m (subject p) (beside others (matching w.matcher c)) (asked accepted k name requests p ask)
+    part_outcome k path p ask others name (reference kind text) = reference_outcome (at k path p) name (referred_to accepted k name kind text p ask)
+
+    -- What the entries that are not told span together.
+    abbrev pub others_span : Key S → Text → Place → (Edge S → Place → Outcome) → List (Part K) → Step → Bool
+    others_span k path p ask [] = spans_nothing
+    others_span k path p ask (x ∷ xs) = either_spans (if form_told w.keywords x.form then spans_nothing else (part_outcome k path p ask spans_nothing x.name x.form).spans) (others_span k path p ask xs)
 
     -- The outcome of all these keywords and references together.
-    abbrev pub parts_outcome : Key S → Text → Place → (Edge S → Place → Outcome) → List (Part K) → Outcome
-    parts_outcome k path p ask [] = accepted
-    parts_outcome k path p ask (x ∷ xs) = both (part_outcome k path p ask x.name x.form) (parts_outcome k path p ask xs)
+    abbrev pub parts_outcome : Key S → Text → Place → (Edge S → Place → Outcome) → (Step → Bool) → List (Part K) → Outcome
+    parts_outcome k path p ask others [] = accepted
+    parts_outcome k path p ask others (x ∷ xs) = both (part_outcome k path p ask (told_of others (form_told w.keywords x.form)) x.name x.form) (parts_outcome k path p ask others xs)
 
     -- The outcome of a schema at a place, given the answers of its children.
     abbrev pub outcome_of : Key S → Text → Place → (Edge S → Place → Outcome) → Outcome
-    outcome_of k path p ask = elim (plan w k) [ always ↦ accepted | never ↦ false_outcome w.keywords.texts (at k path p) (subject p) | these xs ↦ kept (parts_outcome k path p ask xs) ]
+    outcome_of k path p ask = elim (plan w k) [ always ↦ accepted | never ↦ false_outcome w.keywords.texts (at k path p) (subject p) | these xs ↦ kept (parts_outcome k path p ask (others_span k path p ask xs) xs) ]
 
     -- The verdict and the errors with references followed n deep. A reference that lies deeper
     -- counts as valid, without errors.

@@ -22,10 +22,13 @@ SameMets (a ∷ xs) (b ∷ ys) = SameMet a b × SameMets xs ys
 SameMets [] (b ∷ ys) = ⊥
 SameMets (a ∷ xs) [] = ⊥
 
--- Two runs for the verdict return the same verdict, and meet the same matches.
+-- Two runs for the verdict return the same verdict, and meet the same matches; and two runs for the
+-- span return the same span, and meet the same matches.
 pub record SameRuns (a b : Run) : Type 0 where
   pub verdict : (a.outcome tt).verdict ≡ (b.outcome tt).verdict
   pub met : SameMets (a.met for_verdict) (b.met for_verdict)
+  pub spans : (a.outcome tt).spans ≡ (b.outcome tt).spans
+  pub spanning : SameMets a.spanning b.spanning
 
 -- ---- a run for the verdict asks only for verdicts
 

@@ -6,7 +6,7 @@ use Rattle.theory_definitions.specs.Reports.{Unit_, report_of}
 use Rattle.theory_definitions.specs.Matching.{Matching}
 use Rattle.theory_definitions.specs.Keywords.{Answer, Answers, Keywords, Marked, Mode, Question, Reply, Turn, all_valid, ask, done, ecma, is_spanned, mark, match_text, no_reply, span_questions, truth, unmark}
 use Rattle.theory_definitions.specs.Runs.{with_mark, without_last}
-use Rattle.theory_definitions.specs.Laws.{Agrees, AnsweredAlike, AsksRightly, IsPresent, IsRight, PassesUnchanged, StandsInside, answer_in, steps_below}
+use Rattle.theory_definitions.specs.Laws.{Agrees, AnsweredAlike, AsksRightly, IsPresent, IsRight, PassesUnchanged, StandsInside, answer_in, steps_below, IsFixed, SpanInside}
 
 module _ {K R : Type 0} (keywords : Keywords K R) (m : K) (s : Subject) (matches : Matching) (answers : Answers) (unit_at : Question → Unit_) (same : Marked → Marked → Bool) where
   -- The true reply to a turn of a run that has these marks.
@@ -94,5 +94,8 @@ pub record FunctionLaws {K R : Type 0} (keywords : Keywords K R) (m : K) (absorb
       → keywords.units m s matches a ≡ keywords.units m s matches b
   -- What a keyword spans depends only on the answers to questions that it may ask.
   pub spans_read : (s : Subject) → All (λ p. All (Contains (keywords.may_ask m s)) (span_questions p)) (keywords.spans m s)
+  pub spans_stand : (s : Subject) → All (SpanInside s absorbed) (keywords.spans m s)
+  -- What a told keyword spans itself depends on no answer and no match.
+  pub told_spans : keywords.is_told m ≡ true → (s : Subject) → All IsFixed (keywords.spans m s)
   pub stands : (s : Subject) (matches : Matching) (a : Answers) → All (StandsInside s absorbed) (keywords.faults m s matches a)
   pub passes : (s : Subject) (matches : Matching) (a : Answers) → All (PassesUnchanged a (keywords.may_ask m s)) (keywords.faults m s matches a)

@@ -3,19 +3,28 @@
 use Rattle.std.specs.List.{list_all}
 use Rattle.std.specs.Prelude.{Bool, List, None, Option, Some, [], bytes_eq, codes, false, filter, flat_map, if◌then◌else◌, map, nat_le, not, true, ℕ, ◌++◌, ◌∷◌}
 use Rattle.serde_json.specs.Data.{Data, Members, member, no_members, object}
-use Rattle.theory_definitions.specs.Instance.{Place, Subject, Text, member_of}
+use Rattle.theory_definitions.specs.Instance.{Place, Step, Subject, Text, member_of}
 use Rattle.theory_definitions.specs.Pointer.{joined, pointer_to}
-use Rattle.theory_definitions.specs.Reports.{Described, Unit_, children_of, report_of, unit, units_of}
+use Rattle.theory_definitions.specs.Reports.{Described, Outcome, Unit_, accepted, children_of, report_of, unit, units_of}
 use Rattle.theory_definitions.specs.Drafts.{ref_stands_alone}
-use Rattle.theory_definitions.specs.Matching.{Completion, Matching, matching}
+use Rattle.theory_definitions.specs.Matching.{Completion, Matching, beside, matching}
 use Rattle.theory_definitions.specs.Keywords.{Gives, Keywords, Named, Question}
 use Rattle.theory_definitions.specs.Parts.{Parts}
 use Rattle.theory_definitions.specs.Plan.{Edge, Form, Key, Part, always, keyword, never, part, plan, reference, schema_of, these}
-use Rattle.theory_definitions.specs.Meaning.{Where, asked, at, false_text, referred_to, subject, unfolded}
+use Rattle.theory_definitions.specs.Meaning.{Where, asked, at, false_text, form_told, others_span, outcome_of, referred_to, subject, told_of, unfolded}
 
 -- A valid unit with nothing in it.
 abbrev pub no_unit : Unit_
 no_unit = unit (record { valid = true; instance_location = []; evaluation_path = []; schema_path = []; absolute = None; annotations = None; errors = [] }) (units_of [])
+
+-- The outcome of a schema, with its unit.
+pub record Valued : Type 0 where
+  pub outcome : Outcome
+  pub units : Unit_
+
+-- An accepting outcome, and a valid unit with nothing in it.
+abbrev pub no_valued : Valued
+no_valued = record { outcome = accepted; units = no_unit }
 
 -- The unit of a keyword, or of an absorbed keyword.
 abbrev pub keyword_unit : Where → Named → Unit_
@@ -134,20 +143,24 @@ module _ {S K R : Type 0} (w : Parts S K R) where
 
 module _ {S K R : Type 0} (w : Parts S K R) (instance : Data) where
   module _ (c : Completion) where
-    -- The units of one keyword or reference of a plan.
-    abbrev pub part_units : Key S → Text → Place → (Edge S → Place → Unit_) → Text → Form K → PartUnits
-    part_units k path p ask name (keyword m requests absorbed) = keyword_units w.keywords (at w instance k path p) name m (subject w instance p) (matching w.matcher c) (asked w instance no_unit k name requests p ask)
-    part_units k path p ask name (reference kind text) = reference_units (at w instance k path p) name (referred_to w instance no_unit k name kind text p ask)
+    -- The units of one keyword or reference of a plan, if the others span these steps.
+    abbrev pub part_units : Key S → Text → Place → (Edge S → Place → Unit_) → (Step → Bool) → Text → Form K → PartUnits
+    part_units k path p ask others name (keyword m requests absorbed) = keyword_units w.keywords (at w instance k path p) name m (subject w instance p) (beside others (matching w.matcher c)) (asked w instance no_unit k name requests p ask)
+    part_units k path p ask others name (reference kind text) = reference_units (at w instance k path p) name (referred_to w instance no_unit k name kind text p ask)
 
-    -- The entries of a plan, each with its units and its priority.
-    abbrev pub entries_of : Key S → Text → Place → (Edge S → Place → Unit_) → List (Part K) → List Entry
-    entries_of k path p ask [] = []
-    entries_of k path p ask (x ∷ xs) = record { priority = x.priority; units = part_units k path p ask x.name x.form } ∷ entries_of k path p ask xs
+    -- The entries of a plan with their units.
+    abbrev pub entries_of : Key S → Text → Place → (Edge S → Place → Unit_) → (Step → Bool) → List (Part K) → List Entry
+    entries_of k path p ask others [] = []
+    entries_of k path p ask others (x ∷ xs) = record { priority = x.priority; units = part_units k path p ask (told_of others (form_told w.keywords x.form)) x.name x.form } ∷ entries_of k path p ask others xs
 
-    -- The unit of a schema at a place, given the units of its children.
-    abbrev pub unit_of : Key S → Text → Place → (Edge S → Place → Unit_) → Unit_
-    unit_of k path p ask = elim (plan w k) [ always ↦ true_unit (at w instance k path p) | never ↦ false_unit w.keywords.texts (at w instance k path p) (subject w instance p) | these xs ↦ plan_unit (at w instance k path p) (annotations_of w k) (entries_of k path p ask xs) ]
+    -- The unit of a schema at a place, given the outcomes and the units of its children.
+    abbrev pub unit_of : Key S → Text → Place → (Edge S → Place → Outcome) → (Edge S → Place → Unit_) → Unit_
+    unit_of k path p says ask = elim (plan w k) [ always ↦ true_unit (at w instance k path p) | never ↦ false_unit w.keywords.texts (at w instance k path p) (subject w instance p) | these xs ↦ plan_unit (at w instance k path p) (annotations_of w k) (entries_of k path p ask (others_span w instance c k path p says xs) xs) ]
+
+    -- Both together.
+    abbrev pub valued_of : Key S → Text → Place → (Edge S → Place → Valued) → Valued
+    valued_of k path p ask = record { outcome = outcome_of w instance c k path p (λ e q. (ask e q).outcome); units = unit_of k path p (λ e q. (ask e q).outcome) (λ e q. (ask e q).units) }
 
     -- The tree of units with references followed n deep.
     abbrev pub plain_units : ℕ → Key S → Text → Place → Unit_
-    plain_units = unfolded w instance no_unit unit_of
+    plain_units n k path p = (unfolded w instance no_valued valued_of n k path p).units

@@ -3,12 +3,14 @@ use Rattle.std.proofs.Common.{◌≡◌, ◌∙◌, ℕ, zero, suc, ◌+◌, ◌
 use Rattle.std.specs.Prelude.{None, Option, Some, if◌then◌else◌, nat_lt}
 use Rattle.std.specs.List.{list_any}
 use Rattle.std.proofs.lemmas.Bool.{and_parts, eqb-true, or_left, or_right}
+use Rattle.std.proofs.lemmas.List.Elements.{All-contains}
 use Rattle.theory_definitions.specs.Instance.{Place, Text, same_place}
 use Rattle.theory_definitions.specs.Reports.{Outcome, accepted}
 use Rattle.theory_definitions.specs.Keywords.{Below, down, here}
 use Rattle.theory_definitions.specs.Meaning.{place_below}
 use Rattle.theory_definitions.specs.Guarded.{NodeEdge, across, guarded_within, node_outcome, progress_below, yes_outcome}
 use Rattle.theory_definitions.proofs.Products.{in_either}
+use Rattle.theory_meaning.specs.Fractions.{node_words}
 use Rattle.theory_meaning.specs.Numbered.{left, subject_in}
 use Rattle.theory_meaning.proofs.Alike.{verdict_by_any_path}
 use Rattle.theory_meaning.proofs.Reading.{reads_of}
@@ -280,7 +282,8 @@ module _ {K R : Type 0} (w : Solving K R) (solvable : IsSolvable w) (known : ℕ
         let there = below_top p r b begins in
         within_guarded m k e.node (path ++ e.path) (place_below p b) there.0 there.1 (leads_inside w solvable i p e b l asks) (omega (arith, falls, low)) (omega (arith, falls, enough)) (omega (arith, lower, high)))
         (w.cut e) refl)
-        ∙ sym (node_verdict w.keywords w.matcher w.nodes (subject_in w.instance) w.completion i path p (across yes_outcome (node_outcome w.keywords w.matcher w.nodes (subject_in w.instance) w.completion) (Says k) path p (busy_at p)))
+        ∙ sym (node_verdict w.keywords w.matcher w.nodes (subject_in w.instance) w.completion i path p (across yes_outcome (node_outcome w.keywords w.matcher w.nodes (subject_in w.instance) w.completion) (Says k) path p (busy_at p))
+        (λ m is. All-contains (λ m. w.keywords.is_told m ≡ false) (node_words (w.nodes.entries i)) m (solvable.untold i l) is))
 
     pub one_deeper : (i : ℕ) → i < w.count → SaysAt i top now v → need i top busy < suc n → Verdict i top busy ≡ v
     one_deeper i l says low =

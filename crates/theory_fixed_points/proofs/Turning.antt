@@ -115,7 +115,7 @@ module _ {K R : Type 0} (w : Solving K R) (solvable : IsSolvable w) (p : Place) 
       no_less : l ≡ true → (w.keywords.answer (w.keywords.turn m (subject_here w p) r reply)).verdict ≡ false → (answers : EdgeAnswers) → FitsFound f false answers
           → w.keywords.holds m (subject_here w p) (matches_here w p) (child_by w p (edges_by w p answers) es) ≡ false
       no_less leans says answers fits = refused _ (λ holds. true≢false (
-          sym (monotone leans (subject_here w p) (matches_here w p) (child_by w p (edges_by w p answers) es) (child_by w p (consistent_with w p solvable f answers) es)
+          sym ((monotone leans).grows (subject_here w p) (matches_here w p) (child_by w p (edges_by w p answers) es) (child_by w p (consistent_with w p solvable f answers) es)
           (child_more (edges_by w p answers) (consistent_with w p solvable f answers) (λ e d yes. or_first _ _ yes)) holds)
           ∙ ends_by f l marks r reply is way (consistent_with w p solvable f answers) (subst (λ k. Consistent w p f k (consistent_with w p solvable f answers)) (sym leans) (with_now_consistent w p solvable f staged answers fits))
           ∙ says))

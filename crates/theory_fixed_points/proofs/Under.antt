@@ -5,13 +5,12 @@ use Rattle.std.proofs.lemmas.List.{append-nil}
 use Rattle.theory_definitions.specs.Instance.{Place}
 use Rattle.theory_definitions.specs.Keywords.{Below, here, down}
 use Rattle.theory_definitions.specs.Meaning.{place_below}
-use Rattle.theory_definitions.specs.Reports.{Outcome, spans_nothing}
 use Rattle.theory_definitions.specs.Guarded.{NodeEdge}
 use Rattle.theory_meaning.specs.Numbered.{left, subject_in}
 use Rattle.theory_meaning.proofs.Reading.{Reads, reads_of}
-use Rattle.theory_meaning.proofs.Settles.{NodeAsks, free_falls, node_local}
+use Rattle.theory_meaning.proofs.Settles.{NodeAsks, free_falls}
 use Rattle.theory_fixed_points.specs.NodesSay.{node_holds}
-use Rattle.theory_fixed_points.proofs.NodesSay.{node_more, node_verdict, word_monotone}
+use Rattle.theory_fixed_points.proofs.NodesSay.{node_more, node_same, word_monotone}
 use Rattle.theory_fixed_points.specs.Under.{EachMonotone, EdgeAnswers, Solving, IsSolvable, across_by, by_within, under_by}
 
 pub same_bool : (a b : Bool) → (a ≡ true → b ≡ true) → (b ≡ true → a ≡ true) → a ≡ b
@@ -23,10 +22,6 @@ same_bool false false f g = refl
 pub below_begins : (p : Place) (b : Below) → (r : Place) × (place_below p b ≡ p ++ r)
 below_begins p here = ([], sym (append-nil p))
 below_begins p (down s) = (s ∷ [], refl)
-
--- An outcome with a given verdict.
-verdict_alone : Bool → Outcome
-verdict_alone b = record { verdict = b; errors = []; spans = spans_nothing }
 
 module _ {K R : Type 0} (w : Solving K R) (solvable : IsSolvable w) where
   reads : Reads w.keywords
@@ -42,11 +37,7 @@ module _ {K R : Type 0} (w : Solving K R) (solvable : IsSolvable w) where
   -- What a number says depends only on the answers of edges that it may ask.
   pub holds_same : (i : ℕ) (p : Place) (f g : NodeEdge → Below → Bool)
       → ((e : NodeEdge) (b : Below) → NodeAsks w.instance w.nodes i p e b → f e b ≡ g e b) → holds i p f ≡ holds i p g
-  unfolding verdict_alone
-  holds_same i p f g h =
-      sym (node_verdict w.keywords w.matcher w.nodes (subject_in w.instance) w.completion i [] p (λ e b. verdict_alone (f e b)))
-      ∙ ap (λ (o : Outcome). o.verdict) (node_local w.keywords w.matcher w.instance w.nodes reads w.completion i [] p (λ e b. verdict_alone (f e b)) (λ e b. verdict_alone (g e b)) (λ e b asks. ap verdict_alone (h e b asks)))
-      ∙ node_verdict w.keywords w.matcher w.nodes (subject_in w.instance) w.completion i [] p (λ e b. verdict_alone (g e b))
+  holds_same i p f g h = node_same w.keywords reads w.matcher w.nodes w.instance w.completion i p f g h
 
   -- An edge that is not cut is not guarded.
   free : (e : NodeEdge) → w.cut e ≡ false → e.guarded ≡ false

@@ -12,10 +12,20 @@ use Rattle.theory_definitions.specs.Guarded.{NodeEdge, NodeForm, Nodes, guarded_
 use Rattle.theory_meaning.specs.Fractions.{node_words}
 use Rattle.theory_meaning.specs.Greatest.{IsMonotone}
 use Rattle.theory_meaning.specs.Numbered.{Ranked, left, subject_in}
+use Rattle.theory_meaning.specs.Untold.{NeverTold}
 
 -- Each keyword of these numbers is monotone.
 abbrev pub AreMonotone : {K R : Type 0} → Keywords K R → Nodes K → ℕ → Type 0
 AreMonotone keywords nodes count = (i : ℕ) → i < count → All (IsMonotone keywords) (node_words (nodes.entries i))
+
+-- Each keyword keeps its laws, and none is told what others span.
+pub record KeepsUntold {K R : Type 0} (keywords : Keywords K R) : Type 0 where
+  pub laws : EachKeeps keywords
+  pub never : NeverTold keywords
+
+-- No keyword of these numbers is told what others span.
+abbrev pub AreUntold : {K R : Type 0} → Keywords K R → Nodes K → ℕ → Type 0
+AreUntold keywords nodes count = (i : ℕ) → i < count → All (λ m. keywords.is_told m ≡ false) (node_words (nodes.entries i))
 
 module _ {K R : Type 0} (keywords : Keywords K R) (matcher : Matcher) (nodes : Nodes K) (subject_of : Place → Subject) (c : Completion) where
   -- ---- whether a number holds at a place, given the answers of its edges

@@ -9,7 +9,7 @@ use Rattle.theory_definitions.specs.Meaning.{place_below}
 use Rattle.theory_definitions.specs.Laws.{EachKeeps}
 use Rattle.theory_definitions.specs.Guarded.{NodeEdge, Nodes}
 use Rattle.theory_meaning.specs.Numbered.{Ranked, left, subject_in}
-use Rattle.theory_fixed_points.specs.NodesSay.{AreMonotone, node_holds}
+use Rattle.theory_fixed_points.specs.NodesSay.{AreMonotone, AreUntold, node_holds}
 
 -- A set of pairs of a number and a place.
 abbrev pub PairSet : Type 0
@@ -26,10 +26,12 @@ pub record Solving (K R : Type 0) : Type 0 where
   pub completion : Completion
   pub cut : NodeEdge → Bool
 
--- Each keyword keeps its laws, unguarded edges lead to a lower rank, and every guarded edge is cut.
--- Of two edges to the same number that are guarded alike, both are cut or neither is.
+-- Each keyword keeps its laws and is not told what others span, unguarded edges lead to a lower rank,
+-- and every guarded edge is cut. Of two edges to the same number that are guarded alike, both are
+-- cut or neither is.
 pub record IsSolvable {K R : Type 0} (w : Solving K R) : Type 0 where
   pub laws : EachKeeps w.keywords
+  pub untold : AreUntold w.keywords w.nodes w.count
   pub ranked : Ranked w.nodes w.count
   pub cuts : (e : NodeEdge) → e.guarded ≡ true → w.cut e ≡ true
   pub alike : (a b : NodeEdge) → a.node ≡ b.node → a.guarded ≡ b.guarded → w.cut a ≡ w.cut b

@@ -1,6 +1,6 @@
 -- If no question returns, every depth from the number of reached targets times the number of places
 -- on yields the same meaning.
-use Rattle.std.proofs.Common.{◌≡◌, ℕ, List, [], ◌≤◌}
+use Rattle.std.proofs.Common.{◌≡◌, ℕ, List, [], ap, ◌≤◌}
 use Rattle.std.specs.Prelude.{Decides}
 use Rattle.serde_json.specs.Data.{Data}
 use Rattle.theory_definitions.specs.Instance.{Place, Text}
@@ -9,7 +9,7 @@ use Rattle.theory_definitions.specs.Matching.{Assumptions, Completion}
 use Rattle.theory_definitions.specs.Parts.{Parts}
 use Rattle.theory_definitions.specs.Plan.{Edge, Key}
 use Rattle.theory_definitions.specs.Meaning.{outcome_of, unfold_, unfolded}
-use Rattle.theory_definitions.specs.Units.{no_unit, unit_of}
+use Rattle.theory_definitions.specs.Units.{Valued, no_valued, valued_of}
 use Rattle.theory_meaning.specs.Returns.{Return}
 use Rattle.theory_definitions.specs.Runs.{no_run, run, run_node}
 use Rattle.theory_definitions.specs.Cover.{mode_of}
@@ -20,7 +20,7 @@ use Rattle.theory_meaning.specs.Depths.{DepthsAgree, SameDepths}
 use Rattle.theory_meaning.proofs.AtPlaces.{at_places}
 use Rattle.theory_meaning.proofs.Counted.{enough_agree}
 use Rattle.theory_meaning.proofs.Local.{outcome_local}
-use Rattle.theory_meaning.proofs.PlainRuns.{run_local, unit_local}
+use Rattle.theory_meaning.proofs.PlainRuns.{run_local, valued_local}
 use Rattle.theory_meaning.proofs.Questions.{Asks}
 use Rattle.theory_meaning.proofs.Reaching.{at_targets}
 use Rattle.theory_meaning.proofs.Reading.{Reads, reads_of}
@@ -42,7 +42,7 @@ module _ {S K R : Type 0} (w : Parts S K R) (laws : EachKeeps w.keywords) (state
       let runs : (as' : Assumptions) → run w instance as' m root [] [] ≡ run w instance as' n root [] [] = λ as'. agree no_run (run_node w instance as') (λ k path p f g h. run_local w instance reads k path p as' f g h) m n a b in
       record {
         says = says;
-        units = λ c. agree no_unit (unit_of w instance c) (λ k path p f g h. unit_local w instance reads k path p c f g h) m n a b;
+        units = λ c. ap (λ (v : Valued). v.units) (agree no_valued (valued_of w instance c) (λ k path p f g h. valued_local w instance reads k path p c f g h) m n a b);
         runs = runs;
         means = λ j. record { says = λ c. says c j; meets = λ call as'. (runs as' j).met (mode_of call as'); is_match = w.matcher.is_match };
       }

@@ -4,15 +4,15 @@ use Rattle.std.specs.Prelude.{All, Contains, Option, Some, None, option_and_then
 use Rattle.std.proofs.lemmas.List.{append_assoc, append-nil}
 use Rattle.std.proofs.lemmas.List.Elements.{All-nil, All-cons, All-map, All-append, All-weaker, All-contains, All-contains_itself}
 use Rattle.serde_json.specs.Data.{Data, null, boolean, number, string, array, object}
-use Rattle.theory_definitions.specs.Instance.{Text, Place, Subject, a_value, after_step, subject_from, subject_at}
+use Rattle.theory_definitions.specs.Instance.{Text, Place, Subject, a_value, after_step, subject_from, subject_at, Step}
 use Rattle.theory_definitions.specs.Pointer.{joined, pointer_to}
 use Rattle.theory_definitions.specs.Reports.{Error, Outcome, accepted}
 use Rattle.theory_definitions.specs.Parts.{Parts}
-use Rattle.theory_definitions.specs.Matching.{Completion, Matching, matching}
+use Rattle.theory_definitions.specs.Matching.{Completion, Matching, matching, beside}
 use Rattle.theory_definitions.specs.Making.{Request}
 use Rattle.theory_definitions.specs.Keywords.{Answers, Below, here, down, Question, Own, Fault, own, passed}
 use Rattle.theory_definitions.specs.Plan.{Key, Edge, Part, Form, is_refused, keyword, reference, Plan, always, never, these, plan, plan_of, child, requested, reference_edge, height, schema_of, scripted, absolute_of}
-use Rattle.theory_definitions.specs.Meaning.{subject, at, place_below, stamped, fault_error, false_error, false_outcome, asked, referred_to, keyword_outcome, part_outcome, parts_outcome, outcome_of, within, unfold_, kept}
+use Rattle.theory_definitions.specs.Meaning.{subject, at, place_below, stamped, fault_error, false_error, false_outcome, asked, referred_to, keyword_outcome, part_outcome, parts_outcome, outcome_of, within, unfold_, kept, form_told, others_span, told_of}
 use Rattle.theory_definitions.specs.Laws.{IsPresent, steps_below, SpotInside, StandsInside, PassesUnchanged, KeepsLaws}
 use Rattle.theory_meaning.specs.Paths.{Walks, stands, goes, part_edges, names}
 use Rattle.theory_meaning.specs.Numbered.{subject_in}
@@ -224,28 +224,29 @@ module _ {S K R : Type 0} (w : Parts S K R) (absorbs : K → List Text) (laws : 
         edge_leads x in_xs None q at_q h = All-nil (Leading w root instance (keyword_location w k x.name ∷ locations))
         edge_leads x in_xs (Some edge) q at_q h = answers x edge q (passes x edge way (is_part w root instance path k locations way p there xs is_plan x in_xs) (h edge refl)) at_q
 
-        form_leads : (x : Part K) → Contains xs x → (form : Form K) → x.form ≡ form → AllLead locations (part_outcome w instance c k path p ask x.name form)
-        form_leads x in_xs (keyword m requests absorbed) is = keyword_leads w root instance path k locations way p there xs is_plan x in_xs m requests absorbed is (keeps k xs is_plan x in_xs m requests absorbed is)
-            (matching w.matcher c) (asked w instance accepted k x.name requests p ask)
+        form_leads : (others : Step → Bool) (x : Part K) → Contains xs x → (form : Form K) → x.form ≡ form → AllLead locations (part_outcome w instance c k path p ask others x.name form)
+        form_leads others x in_xs (keyword m requests absorbed) is = keyword_leads w root instance path k locations way p there xs is_plan x in_xs m requests absorbed is (keeps k xs is_plan x in_xs m requests absorbed is)
+            (beside others (matching w.matcher c)) (asked w instance accepted k x.name requests p ask)
             (λ q may at_q. edge_leads x in_xs (child w k x.name requests q.child) (place_below p q.below) at_q
             (λ edge e. subst (λ form. Contains (part_edges w k x.name form) edge) (sym is) (picked (requested w k x.name) requests q.child edge e)))
-        form_leads x in_xs (reference kind text) is =
+        form_leads others x in_xs (reference kind text) is =
             let o : Outcome = referred_to w instance accepted k x.name kind text p ask in
             All-map (Leading w root instance locations) (stamped (keyword_location w k x.name)) o.errors
             (each_passed w root instance path k locations way p there xs is_plan x in_xs o.errors
             (edge_leads x in_xs (reference_edge w k x.name kind text) p there (λ edge e. subst (λ form. Contains (part_edges w k x.name form) edge) (sym is) (in_option_list (reference_edge w k x.name kind text) edge e))))
 
-        parts_lead : (ys : List (Part K)) → ((y : Part K) → Contains ys y → Contains xs y) → AllLead locations (parts_outcome w instance c k path p ask ys)
-        parts_lead [] h = All-nil (Leading w root instance locations)
-        parts_lead (y ∷ ys) h =
-            let a : Outcome = part_outcome w instance c k path p ask y.name y.form in
-            let b : Outcome = parts_outcome w instance c k path p ask ys in
-            All-append (Leading w root instance locations) a.errors b.errors (form_leads y (h y (zero, omega arith, refl)) y.form refl) (parts_lead ys (λ z is. h z (later y ys z is)))
+        parts_lead : (others : Step → Bool) (ys : List (Part K)) → ((y : Part K) → Contains ys y → Contains xs y) → AllLead locations (parts_outcome w instance c k path p ask others ys)
+        parts_lead others [] h = All-nil (Leading w root instance locations)
+        parts_lead others (y ∷ ys) h =
+            let told = told_of others (form_told w.keywords y.form) in
+            let a : Outcome = part_outcome w instance c k path p ask told y.name y.form in
+            let b : Outcome = parts_outcome w instance c k path p ask others ys in
+            All-append (Leading w root instance locations) a.errors b.errors (form_leads told y (h y (zero, omega arith, refl)) y.form refl) (parts_lead others ys (λ z is. h z (later y ys z is)))
 
-      plan_leads : (o : Plan K) → plan w k ≡ o → AllLead locations (elim o [ always ↦ accepted | never ↦ false_outcome w.keywords.texts (at w instance k path p) (subject w instance p) | these xs ↦ kept (parts_outcome w instance c k path p ask xs) ])
+      plan_leads : (o : Plan K) → plan w k ≡ o → AllLead locations (elim o [ always ↦ accepted | never ↦ false_outcome w.keywords.texts (at w instance k path p) (subject w instance p) | these xs ↦ kept (parts_outcome w instance c k path p ask (others_span w instance c k path p ask xs) xs) ])
       plan_leads always is = All-nil (Leading w root instance locations)
       plan_leads never is = All-cons (Leading w root instance locations) _ [] (false_leads w root instance path k locations way p there is) (All-nil (Leading w root instance locations))
-      plan_leads (these xs) is = parts_lead xs is xs (λ y in_xs. in_xs)
+      plan_leads (these xs) is = parts_lead xs is (others_span w instance c k path p ask xs) xs (λ y in_xs. in_xs)
 
       outcome_leads : AllLead locations (outcome_of w instance c k path p ask)
       outcome_leads = plan_leads (plan w k) refl

@@ -1,20 +1,22 @@
 -- A run meets only matches that the matcher leaves unfinished. If the matcher finishes every match,
 -- the first run decides.
-use Rattle.std.proofs.Common.{◌≡◌, ℕ, zero, suc, ◌==◌, Bool, true, false, List, [], ◌∷◌, ◌++◌, refl, ap, sym, ◌∙◌, arith}
-use Rattle.std.specs.Prelude.{All, Option, Some, None, find, is_some, not}
+use Rattle.std.proofs.Common.{◌≡◌, ℕ, zero, suc, ◌==◌, Bool, List, [], ◌∷◌, ◌++◌, refl, ap, sym, ◌∙◌, arith}
+use Rattle.std.specs.Prelude.{All, Option, Some, None, find, is_some, not, flat_map}
 use Rattle.std.specs.List.{list_any}
-use Rattle.std.proofs.lemmas.List.Elements.{All-nil, All-cons, All-append, All-contains}
+use Rattle.std.proofs.lemmas.List.Elements.{All-cons, All-append, All-contains}
 use Rattle.serde_json.specs.Data.{Data}
-use Rattle.theory_definitions.specs.Instance.{Place, Subject, Text}
+use Rattle.theory_definitions.specs.Instance.{Place, Subject, Text, Step}
 use Rattle.theory_definitions.specs.Matching.{Assumptions, Match, Matcher, Pair, assumed, completed, completion_of, finished, unfinished}
-use Rattle.theory_definitions.specs.Keywords.{Below, Keywords, Marked, MatchPoint, Mode, Question, Reply, Turn, ask, done, ecma, for_all, for_first, for_units, for_verdict, here, mark, match_text, no_reply, truth, unmark, is_spanned}
+use Rattle.theory_definitions.specs.Keywords.{Below, Keywords, Marked, MatchPoint, Mode, Question, Reply, Turn, ask, done, ecma, for_verdict, here, mark, match_text, no_reply, truth, unmark, is_spanned, Span, child_at, child_here, chosen, every, of_child, of_choice, one, one_accepted, one_matched}
 use Rattle.theory_definitions.specs.Parts.{Parts}
 use Rattle.theory_definitions.specs.Plan.{Edge, Form, Key, Part, Plan, always, child, height, keyword, never, plan, reference, reference_edge, same_child, these}
-use Rattle.theory_definitions.specs.Meaning.{Where, asked, at, place_below, subject, within}
-use Rattle.theory_definitions.specs.Runs.{Looked, Met, Run, looked, no_run, part_met, plan_met, reply_in, run, run_node, site_at, turns, with_mark, without_last}
+use Rattle.theory_definitions.specs.Meaning.{Where, asked, at, place_below, subject, within, form_told, others_span, told_of}
+use Rattle.theory_definitions.specs.Runs.{Looked, Met, Run, looked, no_run, part_met, reply_in, run, run_node, site_at, turns, with_mark, without_last, is_asked, looked_at, node_met, once, option_met, part_spanning, plan_spanning, run_accepts, span_met, spanning_met}
 use Rattle.theory_definitions.specs.Cover.{Call, Sense, mode_of, plain}
-use Rattle.theory_definitions.specs.Guarded.{NodeEdge, NodeForm, NodePart, NodePlan, Nodes, guarded_node, guarded_sense, guarded_within, node_always, node_asked, node_at, node_child, node_keyword, node_looked, node_never, node_part_met, node_reference, node_these, progress_below, same_edge, yes_run}
+use Rattle.theory_definitions.specs.Guarded.{NodeEdge, NodeForm, NodePart, NodePlan, Nodes, guarded_node, guarded_sense, guarded_within, node_always, node_asked, node_at, node_child, node_keyword, node_looked, node_never, node_part_met, node_reference, node_these, progress_below, same_edge, yes_run, node_looked_at, node_others, node_part_spanning, node_told}
+use Rattle.theory_definitions.specs.Reports.{spans_nothing}
 use Rattle.theory_meaning.specs.Members.{Finishes, IsUnfinished}
+use Rattle.theory_meaning.proofs.PlanMet.{EachHas, RunHas, both_have, either_has, node_has, nothing, plan_spanning_has, without_verdict_has}
 use Rattle.theory_meaning.specs.Promises.{DecidesAtOnce, FinishingDecides, MeetsUnfinished, NodesFinishingDecide, NodesMeetUnfinished, PlainMeetsUnfinished}
 use Rattle.theory_meaning.specs.Deciding.{finished_decides}
 
@@ -22,28 +24,21 @@ module _ (matcher : Matcher) where
   abbrev Each : List Met → Type 0
   Each = All (IsUnfinished matcher)
 
-  record RunMeets (r : Run) : Type 0 where
-    each : (mode : Mode) → Each (r.met mode)
-
-  nothing : Each []
-  nothing = All-nil (IsUnfinished matcher)
+  abbrev pub RunMeets : Run → Type 0
+  RunMeets = RunHas (IsUnfinished matcher)
 
   no_run_meets : RunMeets no_run
-  no_run_meets = record { each = λ mode. nothing }
-
-  either_meets : {r r' : Run} (t : Bool) → RunMeets r → RunMeets r' → RunMeets (elim t [ true ↦ r | false ↦ r' ])
-  either_meets true x y = x
-  either_meets false x y = y
+  no_run_meets = record { each = λ mode. nothing (IsUnfinished matcher); spanning = nothing (IsUnfinished matcher) }
 
   -- ---- a keyword
 
-  module _ {K R : Type 0} (keywords : Keywords K R) (as' : Assumptions) (x : Where) (s : Subject) (run_of : Question → Run) (same : Marked → Marked → Bool) (name : Text) (m : K)
+  module _ {K R : Type 0} (keywords : Keywords K R) (as' : Assumptions) (x : Where) (s : Subject) (run_of : Question → Run) (others : Step → Bool) (same : Marked → Marked → Bool) (name : Text) (m : K)
       (all_meet : (q : Question) → RunMeets (run_of q)) where
     abbrev MetIn : ℕ → List Marked → R → Reply → List Met
-    MetIn = turns keywords matcher as' x s run_of same name m
+    MetIn = turns keywords matcher as' x s run_of others same name m
 
     turns_meet : (n : ℕ) (marks : List Marked) (r : R) (reply : Reply) → Each (MetIn n marks r reply)
-    turns_meet zero marks r reply = nothing
+    turns_meet zero marks r reply = nothing (IsUnfinished matcher)
     turns_meet (suc n) marks r reply = go (keywords.step m s r reply) (λ marks' next. turns_meet n marks' (keywords.turn m s r reply) next)
       where
         matched : (a : Pair) (point : MatchPoint) (is : Match) → matcher.is_match a.pattern a.subject ≡ is → ((next : Reply) → Each (MetIn n marks (keywords.turn m s r reply) next))
@@ -64,7 +59,7 @@ module _ (matcher : Matcher) where
               | mark i ↦ MetIn n (with_mark same i marks) (keywords.turn m s r reply) (truth (list_any (same i) marks))
               | unmark ↦ MetIn n (without_last marks) (keywords.turn m s r reply) no_reply
               | ecma text ↦ MetIn n marks (keywords.turn m s r reply) (truth (matcher.is_ecma text))
-              | is_spanned step ↦ MetIn n marks (keywords.turn m s r reply) (truth false)
+              | is_spanned step ↦ MetIn n marks (keywords.turn m s r reply) (truth (others step))
               | done ↦ []
             ])
         go (ask q mode) rest = All-append (IsUnfinished matcher) ((run_of q).met mode) _ ((all_meet q).each mode) (rest marks (reply_in mode (run_of q)))
@@ -72,66 +67,78 @@ module _ (matcher : Matcher) where
         go (mark i) rest = rest (with_mark same i marks) (truth (list_any (same i) marks))
         go unmark rest = rest (without_last marks) no_reply
         go (ecma text) rest = rest marks (truth (matcher.is_ecma text))
-        go (is_spanned step) rest = rest marks (truth false)
-        go done rest = nothing
+        go (is_spanned step) rest = rest marks (truth (others step))
+        go done rest = nothing (IsUnfinished matcher)
 
-  -- ---- a plan
+  -- ---- a keyword that is run for what it spans
 
-  abbrev EachMeets : List Looked → Type 0
-  EachMeets [] = Unit {0}
-  EachMeets (l ∷ ls) = ((mode : Mode) → Each (l.met mode)) × EachMeets ls
+  module _ {K R : Type 0} (keywords : Keywords K R) (as' : Assumptions) (x : Where) (s : Subject) (run_of : Question → Run) (same : Marked → Marked → Bool) (name : Text) (m : K)
+      (all_meet : (q : Question) → RunMeets (run_of q)) where
+    option_meets : (i : Option ℕ) → Each (option_met keywords matcher as' x s run_of same name m i)
+    option_meets None = nothing (IsUnfinished matcher)
+    option_meets (Some i) = (all_meet (child_here i)).spanning
 
-  both_meet : (xs ys : List Met) → Each xs → Each ys → Each (xs ++ ys)
-  both_meet xs ys h t = All-append (IsUnfinished matcher) xs ys h t
+    match_meets : (a : Pair) (point : MatchPoint) (is : Match) → matcher.is_match a.pattern a.subject ≡ is
+        → Each (elim is [ finished b ↦ [] | unfinished reason ↦ record { pair = a; site = site_at x name point } ∷ [] ])
+    match_meets a point (finished b) e = nothing (IsUnfinished matcher)
+    match_meets a point (unfinished reason) e = All-cons (IsUnfinished matcher) (record { pair = a; site = site_at x name point }) [] (reason, e) (nothing (IsUnfinished matcher))
 
-  or_nothing : (b : Bool) (xs ys : List Met) → Each xs → Each ys → Each (elim b [ true ↦ xs | false ↦ ys ])
-  or_nothing true xs ys h t = h
-  or_nothing false xs ys h t = t
+    span_meets : (p : Span) → Each (span_met keywords matcher as' x s run_of same name m p)
+    span_meets every = nothing (IsUnfinished matcher)
+    span_meets (one step) = nothing (IsUnfinished matcher)
+    span_meets (one_matched a point step) = match_meets a point (matcher.is_match a.pattern a.subject) refl
+    span_meets (one_accepted i step) = (all_meet (child_at i step)).each for_verdict
+    span_meets (of_child i) = (all_meet (child_here i)).spanning
+    span_meets (of_choice i first second) = both_have (IsUnfinished matcher) _ _ (all_meet (child_here i)).spanning (option_meets (chosen (run_accepts keywords matcher as' x s run_of same name m (child_here i)) first second))
 
-  plan_meets : (mode : Mode) (ls : List Looked) → EachMeets ls → Each (plan_met mode ls)
-  plan_meets mode [] h = nothing
-  plan_meets for_units (l ∷ ls) h = both_meet _ _ (h.0 for_units) (plan_meets for_units ls h.1)
-  plan_meets for_verdict (l ∷ ls) h = both_meet _ _ (h.0 for_verdict) (or_nothing l.holds _ _ (plan_meets for_verdict ls h.1) nothing)
-  plan_meets for_first (l ∷ ls) h = or_nothing l.is_leaf _ _
-      (both_meet _ _ (h.0 for_verdict) (or_nothing l.holds _ _ (plan_meets for_first ls h.1) (h.0 for_first)))
-      (both_meet _ _ (h.0 for_first) (or_nothing l.holds _ _ (plan_meets for_first ls h.1) nothing))
-  plan_meets for_all (l ∷ ls) h = or_nothing l.is_leaf _ _
-      (both_meet _ _ (h.0 for_verdict) (both_meet _ _ (or_nothing l.holds _ _ nothing (h.0 for_all)) (plan_meets for_all ls h.1)))
-      (both_meet _ _ (h.0 for_all) (plan_meets for_all ls h.1))
+    spans_meet : (ps : List Span) → Each (flat_map (span_met keywords matcher as' x s run_of same name m) ps)
+    spans_meet [] = nothing (IsUnfinished matcher)
+    spans_meet (p ∷ ps) = both_have (IsUnfinished matcher) _ _ (span_meets p) (spans_meet ps)
+
+    spanning_meets : Each (spanning_met keywords matcher as' x s run_of same name m)
+    spanning_meets = both_have (IsUnfinished matcher) _ _ (spans_meet (keywords.spans m s))
+        (turns_meet keywords as' x s (once keywords matcher as' x s run_of same name m) spans_nothing same name m
+        (λ q. without_verdict_has (IsUnfinished matcher) (is_asked keywords matcher as' x s run_of same name m q) (run_of q) (all_meet q)) (keywords.most_turns m s) [] (keywords.begin m s for_verdict) no_reply)
 
   -- ---- numbered nodes
 
   module _ {K R : Type 0} (keywords : Keywords K R) (nodes : Nodes K) (subject_of : Place → Subject) (as' : Assumptions) where
     module _ (i : ℕ) (path : Text) (p : Place) (go : NodeEdge → Below → Run) (all_meet : (e : NodeEdge) (b : Below) → RunMeets (go e b)) where
-      child_meets : (o : Option NodeEdge) (b : Below) → RunMeets (elim o [ None ↦ no_run | Some e ↦ go e b ])
+      pub child_meets : (o : Option NodeEdge) (b : Below) → RunMeets (elim o [ None ↦ no_run | Some e ↦ go e b ])
       child_meets None b = no_run_meets
       child_meets (Some e) b = all_meet e b
 
-      form_meets : (name : Text) (form : NodeForm K) (mode : Mode) → Each (node_part_met keywords matcher nodes subject_of as' i path p go name form mode)
-      form_meets name (node_keyword m es) mode =
-          turns_meet keywords as' (node_at keywords matcher nodes subject_of i path p) (subject_of p) (node_asked keywords matcher nodes subject_of no_run es go) (same_edge es) name m
+      pub form_meets : (others : Step → Bool) (name : Text) (form : NodeForm K) (mode : Mode) → Each (node_part_met keywords matcher nodes subject_of as' i path p go others name form mode)
+      form_meets others name (node_keyword m es) mode =
+          turns_meet keywords as' (node_at keywords matcher nodes subject_of i path p) (subject_of p) (node_asked keywords matcher nodes subject_of no_run es go) others (same_edge es) name m
           (λ q. child_meets (node_child es q.child) q.below) (keywords.most_turns m (subject_of p)) [] (keywords.begin m (subject_of p) mode) no_reply
-      form_meets name (node_reference e) mode = (all_meet e here).each mode
+      form_meets others name (node_reference e) mode = (all_meet e here).each mode
 
-      looked_meet : (xs : List (NodePart K)) → EachMeets (node_looked keywords matcher nodes subject_of as' i path p go xs)
-      looked_meet [] = tt
-      looked_meet (x ∷ xs) = (form_meets x.name x.form, looked_meet xs)
+      form_spans : (name : Text) (form : NodeForm K) → Each (node_part_spanning keywords matcher nodes subject_of as' i path p go name form)
+      form_spans name (node_keyword m es) = spanning_meets keywords as' (node_at keywords matcher nodes subject_of i path p) (subject_of p) (node_asked keywords matcher nodes subject_of no_run es go) (same_edge es) name m
+          (λ q. child_meets (node_child es q.child) q.below)
+      form_spans name (node_reference e) = (all_meet e here).spanning
+
+      looked_meet : (others : Step → Bool) (xs : List (NodePart K)) → EachHas (IsUnfinished matcher) (node_looked keywords matcher nodes subject_of as' i path p go others xs)
+      looked_meet others [] = tt
+      looked_meet others (x ∷ xs) = (form_meets (told_of others (node_told keywords x.form)) x.name x.form, form_spans x.name x.form, looked_meet others xs)
 
       node_meets : RunMeets (guarded_node keywords matcher nodes subject_of as' i path p go)
-      node_meets = record { each = λ mode. by mode (nodes.entries i) }
+      node_meets = record { each = λ mode. by (node_met mode) (node_has (IsUnfinished matcher) mode) (nodes.entries i); spanning = by plan_spanning (plan_spanning_has (IsUnfinished matcher)) (nodes.entries i) }
         where
-          by : (mode : Mode) (o : NodePlan K) → Each (elim o [ node_always ↦ [] | node_never ↦ [] | node_these xs ↦ plan_met mode (node_looked keywords matcher nodes subject_of as' i path p go xs) ])
-          by mode node_always = nothing
-          by mode node_never = nothing
-          by mode (node_these xs) = plan_meets mode (node_looked keywords matcher nodes subject_of as' i path p go xs) (looked_meet xs)
+          by : (answer : List Looked → List Met) → ((ls : List Looked) → EachHas (IsUnfinished matcher) ls → Each (answer ls))
+              → (o : NodePlan K) → Each (elim o [ node_always ↦ [] | node_never ↦ [] | node_these xs ↦ answer (node_looked_at keywords matcher nodes subject_of as' i path p go xs) ])
+          by answer has node_always = nothing (IsUnfinished matcher)
+          by answer has node_never = nothing (IsUnfinished matcher)
+          by answer has (node_these xs) = has (node_looked_at keywords matcher nodes subject_of as' i path p go xs) (looked_meet (node_others keywords matcher nodes subject_of (completion_of as') i path p (λ e b. (go e b).outcome tt) xs) xs)
 
-    yes_meets : (i : ℕ) (path : Text) (p : Place) → RunMeets (yes_run nodes i path p)
-    yes_meets i path p = record { each = λ mode. nothing }
+    pub yes_meets : (i : ℕ) (path : Text) (p : Place) → RunMeets (yes_run nodes i path p)
+    yes_meets i path p = record { each = λ mode. nothing (IsUnfinished matcher); spanning = nothing (IsUnfinished matcher) }
 
-    within_meets : (n i : ℕ) (path : Text) (p : Place) (busy : List ℕ) → RunMeets (guarded_within (yes_run nodes) (guarded_node keywords matcher nodes subject_of as') n i path p busy)
+    pub within_meets : (n i : ℕ) (path : Text) (p : Place) (busy : List ℕ) → RunMeets (guarded_within (yes_run nodes) (guarded_node keywords matcher nodes subject_of as') n i path p busy)
     within_meets zero i path p busy = yes_meets i path p
-    within_meets (suc n) i path p busy = node_meets i path p _ (λ e b. either_meets e.guarded
-        (either_meets (list_any (λ j. j == e.node) (progress_below busy b)) (yes_meets e.node (path ++ e.path) (place_below p b)) (within_meets n e.node (path ++ e.path) (place_below p b) (e.node ∷ progress_below busy b)))
+    within_meets (suc n) i path p busy = node_meets i path p _ (λ e b. either_has (IsUnfinished matcher) e.guarded
+        (either_has (IsUnfinished matcher) (list_any (λ j. j == e.node) (progress_below busy b)) (yes_meets e.node (path ++ e.path) (place_below p b)) (within_meets n e.node (path ++ e.path) (place_below p b) (e.node ∷ progress_below busy b)))
         (within_meets n e.node (path ++ e.path) (place_below p b) (progress_below busy b)))
 
   none_met : Finishes matcher → (ms : List Met) → Each ms → ms ≡ []
@@ -160,28 +167,34 @@ module _ {S K R : Type 0} (w : Parts S K R) (instance : Data) (as' : Assumptions
     edge_meets None q = no_run_meets w.matcher
     edge_meets (Some e) q = all_meet e q
 
-    plain_form_meets : (name : Text) (form : Form K) (mode : Mode) → Each w.matcher (part_met w instance as' k path p run_of name form mode)
-    plain_form_meets name (keyword m requests absorbed) mode =
-        turns_meet w.matcher w.keywords as' (at w instance k path p) (subject w instance p) (asked w instance no_run k name requests p run_of) (same_child w k name requests) name m
+    plain_form_meets : (others : Step → Bool) (name : Text) (form : Form K) (mode : Mode) → Each w.matcher (part_met w instance as' k path p run_of others name form mode)
+    plain_form_meets others name (keyword m requests absorbed) mode =
+        turns_meet w.matcher w.keywords as' (at w instance k path p) (subject w instance p) (asked w instance no_run k name requests p run_of) others (same_child w k name requests) name m
         (λ q. edge_meets (child w k name requests q.child) (place_below p q.below)) (w.keywords.most_turns m (subject w instance p)) [] (w.keywords.begin m (subject w instance p) mode) no_reply
-    plain_form_meets name (reference kind text) mode = (edge_meets (reference_edge w k name kind text) p).each mode
+    plain_form_meets others name (reference kind text) mode = (edge_meets (reference_edge w k name kind text) p).each mode
 
-    plain_looked_meet : (xs : List (Part K)) → EachMeets w.matcher (looked w instance as' k path p run_of xs)
-    plain_looked_meet [] = tt
-    plain_looked_meet (x ∷ xs) = (plain_form_meets x.name x.form, plain_looked_meet xs)
+    plain_form_spans : (name : Text) (form : Form K) → Each w.matcher (part_spanning w instance as' k path p run_of name form)
+    plain_form_spans name (keyword m requests absorbed) = spanning_meets w.matcher w.keywords as' (at w instance k path p) (subject w instance p) (asked w instance no_run k name requests p run_of) (same_child w k name requests) name m
+        (λ q. edge_meets (child w k name requests q.child) (place_below p q.below))
+    plain_form_spans name (reference kind text) = (edge_meets (reference_edge w k name kind text) p).spanning
+
+    plain_looked_meet : (others : Step → Bool) (xs : List (Part K)) → EachHas (IsUnfinished w.matcher) (looked w instance as' k path p run_of others xs)
+    plain_looked_meet others [] = tt
+    plain_looked_meet others (x ∷ xs) = (plain_form_meets (told_of others (form_told w.keywords x.form)) x.name x.form, plain_form_spans x.name x.form, plain_looked_meet others xs)
 
     plain_node_meets : Meets (run_node w instance as' k path p run_of)
-    plain_node_meets = record { each = λ mode. by mode (plan w k) }
+    plain_node_meets = record { each = λ mode. by (node_met mode) (node_has (IsUnfinished w.matcher) mode) (plan w k); spanning = by plan_spanning (plan_spanning_has (IsUnfinished w.matcher)) (plan w k) }
       where
-        by : (mode : Mode) (o : Plan K) → Each w.matcher (elim o [ always ↦ [] | never ↦ [] | these xs ↦ plan_met mode (looked w instance as' k path p run_of xs) ])
-        by mode always = nothing w.matcher
-        by mode never = nothing w.matcher
-        by mode (these xs) = plan_meets w.matcher mode (looked w instance as' k path p run_of xs) (plain_looked_meet xs)
+        by : (answer : List Looked → List Met) → ((ls : List Looked) → EachHas (IsUnfinished w.matcher) ls → Each w.matcher (answer ls))
+            → (o : Plan K) → Each w.matcher (elim o [ always ↦ [] | never ↦ [] | these xs ↦ answer (looked_at w instance as' k path p run_of xs) ])
+        by answer has always = nothing (IsUnfinished w.matcher)
+        by answer has never = nothing (IsUnfinished w.matcher)
+        by answer has (these xs) = has (looked_at w instance as' k path p run_of xs) (plain_looked_meet (others_span w instance (completion_of as') k path p (λ e q. (run_of e q).outcome tt) xs) xs)
 
   plain_within_meets : (across : Key S → Text → Place → Run) → ((k : Key S) (path : Text) (p : Place) → Meets (across k path p))
       → (h : ℕ) (k : Key S) (path : Text) (p : Place) → Meets (within w instance no_run (run_node w instance as') across h k path p)
   plain_within_meets across all_meet zero k path p = no_run_meets w.matcher
-  plain_within_meets across all_meet (suc h) k path p = plain_node_meets k path p _ (λ e q. either_meets w.matcher e.is_reference
+  plain_within_meets across all_meet (suc h) k path p = plain_node_meets k path p _ (λ e q. either_has (IsUnfinished w.matcher) e.is_reference
       (all_meet e.key (path ++ e.path) q) (plain_within_meets across all_meet h e.key (path ++ e.path) q))
 
   run_meets : (n : ℕ) (k : Key S) (path : Text) (p : Place) → Meets (run w instance as' n k path p)

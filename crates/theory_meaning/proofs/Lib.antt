@@ -23,9 +23,11 @@ pub mod TurnsGiveRuns
 pub mod CoversApart
 pub mod TakenApart
 mod SameTurns
+mod SameSpans
 pub mod Alike
 mod Steps
 mod KeysAlike
+pub mod PlanMet
 mod Plans
 mod Senses
 pub mod Sentences
@@ -53,3 +55,4 @@ pub mod SamePaths
 pub mod MetAgain
 pub mod PairsDecide
 pub mod Finishing
+pub mod Untold

@@ -5,21 +5,21 @@ use Rattle.std.specs.Prelude.{Contains, Option, Some, None}
 use Rattle.std.specs.List.{list_any}
 use Rattle.std.proofs.lemmas.List.Elements.{All-contains}
 use Rattle.serde_json.specs.Data.{Data}
-use Rattle.theory_definitions.specs.Instance.{Text, Place, Subject}
-use Rattle.theory_definitions.specs.Reports.{Unit_}
-use Rattle.theory_definitions.specs.Matching.{Assumptions, Completion, Matcher, completion_of, matching}
+use Rattle.theory_definitions.specs.Instance.{Text, Place, Subject, Step}
+use Rattle.theory_definitions.specs.Reports.{Unit_, Outcome}
+use Rattle.theory_definitions.specs.Matching.{Assumptions, Completion, Matcher, completion_of, matching, beside}
 use Rattle.theory_definitions.specs.Keywords.{Below, Keywords, Mode, Question, here}
-use Rattle.theory_definitions.specs.Meaning.{place_below}
-use Rattle.theory_definitions.specs.Units.{Entry, false_unit, no_unit, plan_unit, reference_units, true_unit}
-use Rattle.theory_definitions.specs.Runs.{Looked, Met, Run, no_run, plan_met}
+use Rattle.theory_definitions.specs.Meaning.{place_below, told_of}
+use Rattle.theory_definitions.specs.Units.{Entry, false_unit, no_unit, plan_unit, reference_units, true_unit, Valued}
+use Rattle.theory_definitions.specs.Runs.{Looked, Met, Run, no_run, node_met, plan_spanning}
 use Rattle.theory_definitions.specs.Cover.{mode_of}
 use Rattle.theory_definitions.specs.Laws.{IsPresent, steps_below}
-use Rattle.theory_definitions.specs.Guarded.{Children, NodeEdge, NodeForm, NodePart, NodePlan, Nodes, across, form_edges, guarded_node, guarded_within, node_always, node_asked, node_at, node_child, node_edges, node_entries_of, node_keyword, node_looked, node_never, node_outcome, node_part_met, node_part_units, node_reference, node_these, node_unit, progress_below, same_edge, yes_outcome, yes_run, yes_unit}
+use Rattle.theory_definitions.specs.Guarded.{Children, NodeEdge, NodeForm, NodePart, NodePlan, Nodes, across, form_edges, guarded_node, guarded_within, node_always, node_asked, node_at, node_child, node_edges, node_entries_of, node_keyword, node_looked, node_never, node_outcome, node_part_met, node_part_units, node_reference, node_these, node_unit, progress_below, same_edge, yes_outcome, yes_run, node_looked_at, node_others, node_part_spanning, node_told, node_valued, yes_valued}
 use Rattle.theory_meaning.specs.Numbered.{GuardedRunsSettle, GuardedSenseSettles, RunsSayOutcomes, subject_in}
 use Rattle.theory_meaning.proofs.Reading.{Reads, reads_of}
 use Rattle.theory_meaning.proofs.Questions.{later, in_flat_map}
-use Rattle.theory_meaning.proofs.Settles.{NodeAsks, node_local, part_same, picked, settles}
-use Rattle.theory_meaning.proofs.RunsRead.{met_reads, units_read}
+use Rattle.theory_meaning.proofs.Settles.{NodeAsks, node_local, part_same, picked, settles, others_same}
+use Rattle.theory_meaning.proofs.RunsRead.{met_reads, units_read, spanning_reads}
 
 module _ {K R : Type 0} (keywords : Keywords K R) (matcher : Matcher) (instance : Data) (nodes : Nodes K) (reads : Reads keywords) (i : ℕ) (path : Text) (p : Place) where
   -- ---- an answer of any kind
@@ -55,66 +55,87 @@ module _ {K R : Type 0} (keywords : Keywords K R) (matcher : Matcher) (instance 
   -- ---- units
 
   module _ (c : Completion) (f g : NodeEdge → Below → Unit_) where
-    form_units : (name : Text) (x : NodeForm K) → FormAlike no_unit f g x → node_part_units keywords matcher nodes (subject_in instance) c i path p f name x ≡ node_part_units keywords matcher nodes (subject_in instance) c i path p g name x
-    form_units name (node_keyword m es) h = units_read keywords reads (node_at keywords matcher nodes (subject_in instance) i path p) name m (subject_in instance p) (matching matcher c) _ _ (keyword_answers no_unit f g m es h)
-    form_units name (node_reference e) h = ap (reference_units (node_at keywords matcher nodes (subject_in instance) i path p) name) (reference_answers no_unit f g e h)
+    form_units : (others : Step → Bool) (name : Text) (x : NodeForm K) → FormAlike no_unit f g x → node_part_units keywords matcher nodes (subject_in instance) c i path p f others name x ≡ node_part_units keywords matcher nodes (subject_in instance) c i path p g others name x
+    form_units others name (node_keyword m es) h = units_read keywords reads (node_at keywords matcher nodes (subject_in instance) i path p) name m (subject_in instance p) (beside others (matching matcher c)) _ _ (keyword_answers no_unit f g m es h)
+    form_units others name (node_reference e) h = ap (reference_units (node_at keywords matcher nodes (subject_in instance) i path p) name) (reference_answers no_unit f g e h)
 
-    entries_same : (xs : List (NodePart K)) → PartsAlike no_unit f g xs → node_entries_of keywords matcher nodes (subject_in instance) c i path p f xs ≡ node_entries_of keywords matcher nodes (subject_in instance) c i path p g xs
-    entries_same [] h = refl
-    entries_same (x ∷ xs) h = let e = form_units x.name x.form (first_alike no_unit f g x xs h) in
-        ap₂ (λ (z : Entry) zs. z ∷ zs) (λ j. record { priority = x.priority; units = e j }) (entries_same xs (others_alike no_unit f g x xs h))
+    entries_same : (others : Step → Bool) (xs : List (NodePart K)) → PartsAlike no_unit f g xs → node_entries_of keywords matcher nodes (subject_in instance) c i path p f others xs ≡ node_entries_of keywords matcher nodes (subject_in instance) c i path p g others xs
+    entries_same others [] h = refl
+    entries_same others (x ∷ xs) h = let e = form_units (told_of others (node_told keywords x.form)) x.name x.form (first_alike no_unit f g x xs h) in
+        ap₂ (λ (z : Entry) zs. z ∷ zs) (λ j. record { priority = x.priority; units = e j }) (entries_same others xs (others_alike no_unit f g x xs h))
 
-    plan_units : (o : NodePlan K) → nodes.entries i ≡ o → ((e : NodeEdge) (b : Below) → NodeAsks instance nodes i p e b → f e b ≡ g e b)
+    plan_units : (says says' : NodeEdge → Below → Outcome) (o : NodePlan K) → nodes.entries i ≡ o → ((e : NodeEdge) (b : Below) → NodeAsks instance nodes i p e b → says e b ≡ says' e b) → ((e : NodeEdge) (b : Below) → NodeAsks instance nodes i p e b → f e b ≡ g e b)
         → ◌≡◌ {A = Unit_} (elim o [
           | node_always ↦ true_unit (node_at keywords matcher nodes (subject_in instance) i path p)
           | node_never ↦ false_unit keywords.texts (node_at keywords matcher nodes (subject_in instance) i path p) (subject_in instance p)
-          | node_these xs ↦ plan_unit (node_at keywords matcher nodes (subject_in instance) i path p) (nodes.annotations i) (node_entries_of keywords matcher nodes (subject_in instance) c i path p f xs)
+          | node_these xs ↦ plan_unit (node_at keywords matcher nodes (subject_in instance) i path p) (nodes.annotations i) (node_entries_of keywords matcher nodes (subject_in instance) c i path p f (node_others keywords matcher nodes (subject_in instance) c i path p says xs) xs)
         ])
         (elim o [
           | node_always ↦ true_unit (node_at keywords matcher nodes (subject_in instance) i path p)
           | node_never ↦ false_unit keywords.texts (node_at keywords matcher nodes (subject_in instance) i path p) (subject_in instance p)
-          | node_these xs ↦ plan_unit (node_at keywords matcher nodes (subject_in instance) i path p) (nodes.annotations i) (node_entries_of keywords matcher nodes (subject_in instance) c i path p g xs)
+          | node_these xs ↦ plan_unit (node_at keywords matcher nodes (subject_in instance) i path p) (nodes.annotations i) (node_entries_of keywords matcher nodes (subject_in instance) c i path p g (node_others keywords matcher nodes (subject_in instance) c i path p says' xs) xs)
         ])
-    plan_units node_always is h = refl
-    plan_units node_never is h = refl
-    plan_units (node_these xs) is h = ap (plan_unit (node_at keywords matcher nodes (subject_in instance) i path p) (nodes.annotations i)) (entries_same xs (plan_alike no_unit f g xs is h))
+    plan_units says says' node_always is e h = refl
+    plan_units says says' node_never is e h = refl
+    plan_units says says' (node_these xs) is e h = ap (plan_unit (node_at keywords matcher nodes (subject_in instance) i path p) (nodes.annotations i))
+        (ap (λ o. node_entries_of keywords matcher nodes (subject_in instance) c i path p f o xs) (others_same keywords matcher instance nodes reads c i path p says says' xs (λ x in_xs d b a. e d b (record { edge = subst (λ o. Contains (node_edges o) d) (sym is) (in_flat_map (λ y. form_edges y.form) xs x d in_xs a.0); present = a.1 })))
+        ∙ entries_same (node_others keywords matcher nodes (subject_in instance) c i path p says' xs) xs (plan_alike no_unit f g xs is h))
 
-    pub unit_local : ((e : NodeEdge) (b : Below) → NodeAsks instance nodes i p e b → f e b ≡ g e b)
-        → node_unit keywords matcher nodes (subject_in instance) c i path p f ≡ node_unit keywords matcher nodes (subject_in instance) c i path p g
-    unit_local h = plan_units (nodes.entries i) refl h
+    pub unit_local : (says says' : NodeEdge → Below → Outcome) → ((e : NodeEdge) (b : Below) → NodeAsks instance nodes i p e b → says e b ≡ says' e b) → ((e : NodeEdge) (b : Below) → NodeAsks instance nodes i p e b → f e b ≡ g e b)
+        → node_unit keywords matcher nodes (subject_in instance) c i path p says f ≡ node_unit keywords matcher nodes (subject_in instance) c i path p says' g
+    unit_local says says' e h = plan_units says says' (nodes.entries i) refl e h
+
+  -- An outcome and its unit together.
+  pub valued_local : (c : Completion) (f g : NodeEdge → Below → Valued) → ((e : NodeEdge) (b : Below) → NodeAsks instance nodes i p e b → f e b ≡ g e b) → node_valued keywords matcher nodes (subject_in instance) c i path p f ≡ node_valued keywords matcher nodes (subject_in instance) c i path p g
+  valued_local c f g h =
+      let outcome = node_local keywords matcher instance nodes reads c i path p (λ e b. (f e b).outcome) (λ e b. (g e b).outcome) (λ e b a. ap (λ v. v.outcome) (h e b a)) in
+      let units = unit_local c (λ e b. (f e b).units) (λ e b. (g e b).units) (λ e b. (f e b).outcome) (λ e b. (g e b).outcome) (λ e b a. ap (λ v. v.outcome) (h e b a)) (λ e b a. ap (λ v. v.units) (h e b a)) in
+      λ j. record { outcome = outcome j; units = units j }
 
   -- ---- the matches that are met
 
   module _ (as' : Assumptions) (f g : NodeEdge → Below → Run) where
-    form_met : (name : Text) (x : NodeForm K) → FormAlike no_run f g x → (mode : Mode)
-        → node_part_met keywords matcher nodes (subject_in instance) as' i path p f name x mode ≡ node_part_met keywords matcher nodes (subject_in instance) as' i path p g name x mode
-    form_met name (node_keyword m es) h mode = met_reads keywords reads (node_at keywords matcher nodes (subject_in instance) i path p) name m (subject_in instance p) matcher as' (same_edge es) mode _ _ (keyword_answers no_run f g m es h)
-    form_met name (node_reference e) h mode = ap (λ r. r.met mode) (reference_answers no_run f g e h)
+    form_met : (others : Step → Bool) (name : Text) (x : NodeForm K) → FormAlike no_run f g x → (mode : Mode)
+        → node_part_met keywords matcher nodes (subject_in instance) as' i path p f others name x mode ≡ node_part_met keywords matcher nodes (subject_in instance) as' i path p g others name x mode
+    form_met others name (node_keyword m es) h mode = met_reads keywords reads (node_at keywords matcher nodes (subject_in instance) i path p) name m (subject_in instance p) matcher as' others (same_edge es) mode _ _ (keyword_answers no_run f g m es h)
+    form_met others name (node_reference e) h mode = ap (λ r. r.met mode) (reference_answers no_run f g e h)
 
-    looked_same : (xs : List (NodePart K)) → PartsAlike no_run f g xs → node_looked keywords matcher nodes (subject_in instance) as' i path p f xs ≡ node_looked keywords matcher nodes (subject_in instance) as' i path p g xs
-    looked_same [] h = refl
-    looked_same (x ∷ xs) h =
+    form_spanning : (name : Text) (x : NodeForm K) → FormAlike no_run f g x → node_part_spanning keywords matcher nodes (subject_in instance) as' i path p f name x ≡ node_part_spanning keywords matcher nodes (subject_in instance) as' i path p g name x
+    form_spanning name (node_keyword m es) h = spanning_reads keywords reads (node_at keywords matcher nodes (subject_in instance) i path p) name m (subject_in instance p) matcher as' (same_edge es) _ _ (keyword_answers no_run f g m es h)
+    form_spanning name (node_reference e) h = ap (λ r. r.spanning) (reference_answers no_run f g e h)
+
+    looked_same : (others : Step → Bool) (xs : List (NodePart K)) → PartsAlike no_run f g xs → node_looked keywords matcher nodes (subject_in instance) as' i path p f others xs ≡ node_looked keywords matcher nodes (subject_in instance) as' i path p g others xs
+    looked_same others [] h = refl
+    looked_same others (x ∷ xs) h =
         let first = first_alike no_run f g x xs h in
-        let outcome = part_same keywords matcher instance nodes reads (completion_of as') i path p (λ e b. (f e b).outcome tt) (λ e b. (g e b).outcome tt) x.name x.form (λ e b a. ap (λ r. r.outcome tt) (first e b a)) in
-        let met = form_met x.name x.form first in
-        ap₂ (λ (z : Looked) zs. z ∷ zs) (λ j. record { is_leaf = x.is_leaf; holds = (outcome j).verdict; met = λ mode. met mode j }) (looked_same xs (others_alike no_run f g x xs h))
+        let told = told_of others (node_told keywords x.form) in
+        let outcome = part_same keywords matcher instance nodes reads (completion_of as') i path p (λ e b. (f e b).outcome tt) (λ e b. (g e b).outcome tt) told x.name x.form (λ e b a. ap (λ r. r.outcome tt) (first e b a)) in
+        let met = form_met told x.name x.form first in
+        let spanning = form_spanning x.name x.form first in
+        ap₂ (λ (z : Looked) zs. z ∷ zs) (λ j. record { is_leaf = x.is_leaf; is_told = node_told keywords x.form; holds = (outcome j).verdict; met = λ mode. met mode j; spanning = spanning j }) (looked_same others xs (others_alike no_run f g x xs h))
 
-    plan_meets : (mode : Mode) (o : NodePlan K) → nodes.entries i ≡ o → ((e : NodeEdge) (b : Below) → NodeAsks instance nodes i p e b → f e b ≡ g e b)
-        → ◌≡◌ {A = List Met} (elim o [ node_always ↦ [] | node_never ↦ [] | node_these xs ↦ plan_met mode (node_looked keywords matcher nodes (subject_in instance) as' i path p f xs) ])
-        (elim o [ node_always ↦ [] | node_never ↦ [] | node_these xs ↦ plan_met mode (node_looked keywords matcher nodes (subject_in instance) as' i path p g xs) ])
-    plan_meets mode node_always is h = refl
-    plan_meets mode node_never is h = refl
-    plan_meets mode (node_these xs) is h = ap (plan_met mode) (looked_same xs (plan_alike no_run f g xs is h))
+    looked_at_same : (xs : List (NodePart K)) → PartsAlike no_run f g xs → node_looked_at keywords matcher nodes (subject_in instance) as' i path p f xs ≡ node_looked_at keywords matcher nodes (subject_in instance) as' i path p g xs
+    looked_at_same xs h = ap (λ o. node_looked keywords matcher nodes (subject_in instance) as' i path p f o xs) (others_same keywords matcher instance nodes reads (completion_of as') i path p (λ e b. (f e b).outcome tt) (λ e b. (g e b).outcome tt) xs (λ x is e b a. ap (λ r. r.outcome tt) (h x is e b a)))
+        ∙ looked_same (node_others keywords matcher nodes (subject_in instance) (completion_of as') i path p (λ e b. (g e b).outcome tt) xs) xs h
+
+    plan_meets : (answer : List Looked → List Met) (o : NodePlan K) → nodes.entries i ≡ o → ((e : NodeEdge) (b : Below) → NodeAsks instance nodes i p e b → f e b ≡ g e b)
+        → ◌≡◌ {A = List Met} (elim o [ node_always ↦ [] | node_never ↦ [] | node_these xs ↦ answer (node_looked_at keywords matcher nodes (subject_in instance) as' i path p f xs) ])
+        (elim o [ node_always ↦ [] | node_never ↦ [] | node_these xs ↦ answer (node_looked_at keywords matcher nodes (subject_in instance) as' i path p g xs) ])
+    plan_meets answer node_always is h = refl
+    plan_meets answer node_never is h = refl
+    plan_meets answer (node_these xs) is h = ap answer (looked_at_same xs (plan_alike no_run f g xs is h))
 
     pub run_local : ((e : NodeEdge) (b : Below) → NodeAsks instance nodes i p e b → f e b ≡ g e b)
         → guarded_node keywords matcher nodes (subject_in instance) as' i path p f ≡ guarded_node keywords matcher nodes (subject_in instance) as' i path p g
     run_local h =
         let c : Completion = completion_of as' in
-        let outcome = node_local keywords matcher instance nodes reads c i path p (λ e b. (f e b).outcome tt) (λ e b. (g e b).outcome tt) (λ e b a. ap (λ r. r.outcome tt) (h e b a)) in
-        let units = unit_local c (λ e b. (f e b).units tt) (λ e b. (g e b).units tt) (λ e b a. ap (λ r. r.units tt) (h e b a)) in
+        let outcomes = λ (e : NodeEdge) (b : Below) (a : NodeAsks instance nodes i p e b). ap (λ r. r.outcome tt) (h e b a) in
+        let outcome = node_local keywords matcher instance nodes reads c i path p (λ e b. (f e b).outcome tt) (λ e b. (g e b).outcome tt) outcomes in
+        let units = unit_local c (λ e b. (f e b).units tt) (λ e b. (g e b).units tt) (λ e b. (f e b).outcome tt) (λ e b. (g e b).outcome tt) outcomes (λ e b a. ap (λ r. r.units tt) (h e b a)) in
         let met : (mode : Mode) → (guarded_node keywords matcher nodes (subject_in instance) as' i path p f).met mode ≡ (guarded_node keywords matcher nodes (subject_in instance) as' i path p g).met mode
-        = λ mode. plan_meets mode (nodes.entries i) refl h in
-        λ j. record { outcome = λ t. outcome j; units = λ t. units j; met = λ mode. met mode j }
+        = λ mode. plan_meets (node_met mode) (nodes.entries i) refl h in
+        let spanning : (guarded_node keywords matcher nodes (subject_in instance) as' i path p f).spanning ≡ (guarded_node keywords matcher nodes (subject_in instance) as' i path p g).spanning = plan_meets plan_spanning (nodes.entries i) refl h in
+        λ j. record { outcome = λ t. outcome j; units = λ t. units j; met = λ mode. met mode j; spanning = spanning j }
 
 module _ {K R : Type 0} (keywords : Keywords K R) where
   pub guarded_runs_settle : GuardedRunsSettle keywords
@@ -150,5 +171,8 @@ module _ {X Y : Type 0} (part : X → Y) (yes : ℕ → Text → Place → X) (n
 pub runs_say_outcomes : {K R : Type 0} (keywords : Keywords K R) → RunsSayOutcomes keywords
 runs_say_outcomes keywords matcher nodes subject_of as' n i path p busy = (
   within_part (λ (r : Run). r.outcome tt) (yes_run nodes) (guarded_node keywords matcher nodes subject_of as') yes_outcome (node_outcome keywords matcher nodes subject_of (completion_of as')) (λ j path' q. refl) (λ j path' q f. refl) n i path p busy,
-  within_part (λ (r : Run). r.units tt) (yes_run nodes) (guarded_node keywords matcher nodes subject_of as') (yes_unit nodes) (node_unit keywords matcher nodes subject_of (completion_of as')) (λ j path' q. refl) (λ j path' q f. refl) n i path p busy,
+  ap (λ (v : Valued). v.units) (within_part run_valued (yes_run nodes) (guarded_node keywords matcher nodes subject_of as') (yes_valued nodes) (node_valued keywords matcher nodes subject_of (completion_of as')) (λ j path' q. refl) (λ j path' q f. refl) n i path p busy),
 )
+  where
+    run_valued : Run → Valued
+    run_valued r = record { outcome = r.outcome tt; units = r.units tt }

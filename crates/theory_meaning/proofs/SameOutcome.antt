@@ -1,19 +1,19 @@
 -- The outcome of a number is that of its key, if the questions that both ask have the same answers.
-use Rattle.std.proofs.Common.{◌≡◌, ℕ, zero, List, [], ◌∷◌, refl, sym, subst, ◌∙◌, ap, ap₂, arith}
-use Rattle.std.specs.Prelude.{Contains, Option, Some, None, flat_map, map}
+use Rattle.std.proofs.Common.{◌≡◌, ℕ, zero, List, [], ◌∷◌, refl, sym, subst, ◌∙◌, ap, ap₂, arith, Bool}
+use Rattle.std.specs.Prelude.{Contains, Option, Some, None, flat_map, map, if◌then◌else◌}
 use Rattle.std.proofs.lemmas.List.Elements.{All-contains}
 use Rattle.serde_json.specs.Data.{Data}
-use Rattle.theory_definitions.specs.Instance.{Text, Place, Subject}
-use Rattle.theory_definitions.specs.Reports.{Outcome, accepted}
+use Rattle.theory_definitions.specs.Instance.{Text, Place, Subject, Step}
+use Rattle.theory_definitions.specs.Reports.{Outcome, accepted, spans_nothing}
 use Rattle.theory_definitions.specs.Parts.{Parts}
-use Rattle.theory_definitions.specs.Matching.{Completion, matching}
+use Rattle.theory_definitions.specs.Matching.{Completion, matching, beside}
 use Rattle.theory_definitions.specs.Keywords.{Below, here, Question}
 use Rattle.theory_definitions.specs.Making.{Request}
 use Rattle.theory_definitions.specs.Plan.{Key, Edge, Part, Form, keyword, reference, Reference, Plan, always, never, these, plan, child, requested, reference_edge, option_list}
-use Rattle.theory_definitions.specs.Meaning.{subject, Where, at, place_below, asked, referred_to, keyword_outcome, reference_outcome, false_outcome, fault_error, both, part_outcome, parts_outcome, outcome_of, kept}
+use Rattle.theory_definitions.specs.Meaning.{subject, Where, at, place_below, asked, referred_to, keyword_outcome, reference_outcome, false_outcome, fault_error, both, part_outcome, parts_outcome, outcome_of, kept, others_span, either_spans, form_told, told_of}
 use Rattle.theory_meaning.specs.Paths.{edges, part_edges}
 use Rattle.theory_definitions.specs.Laws.{IsPresent, steps_below}
-use Rattle.theory_definitions.specs.Guarded.{NodeEdge, Children, node_child, NodeForm, node_keyword, node_reference, NodePart, NodePlan, node_always, node_never, node_these, Nodes, form_edges, node_edges, node_at, node_asked, node_part, node_parts, node_outcome, yes_outcome}
+use Rattle.theory_definitions.specs.Guarded.{NodeEdge, Children, node_child, NodeForm, node_keyword, node_reference, NodePart, NodePlan, node_always, node_never, node_these, Nodes, form_edges, node_edges, node_at, node_asked, node_part, node_parts, node_outcome, yes_outcome, node_others, node_told}
 use Rattle.theory_meaning.specs.Numbered.{Numbers, IsNumber, SameEdge, SameForm, SamePart, SameParts, SamePlan, StandsFor, NumbersSayUnfolding}
 use Rattle.theory_meaning.proofs.Reading.{Reads, reads_of}
 use Rattle.theory_meaning.proofs.Questions.{later, in_flat_map, PartAsks, by_keyword, by_reference, Asks}
@@ -98,45 +98,69 @@ module _ {S K R : Type 0} (w : Parts S K R) (instance : Data) (keys : Numbers S)
             node_asks = record { edge = subst (λ o. Contains (node_edges o) e) (sym is_xs) (in_flat_map (λ z. form_edges z.form) xs x e in_xs pair.node_edge); present = pair.present };
           })
 
+    -- The same entries are told.
+    pub told_same : (name : Text) (x : NodeForm K) (y : Form K) → SameForm w keys nodes k name x y → node_told w.keywords x ≡ form_told w.keywords y
+    told_same name (node_keyword m es) (keyword m' requests absorbed) s = ap w.keywords.is_told s.0
+    told_same name (node_reference e) (reference kind text) s = refl
+    told_same name (node_keyword m es) (reference kind text) s = absurd s
+    told_same name (node_reference e) (keyword m' requests absorbed) s = absurd s
+
     -- ---- outcomes
 
     module _ (c : Completion) (f : NodeEdge → Below → Outcome) (g : Edge S → Place → Outcome) where
-      form_same : (name : Text) (x : NodeForm K) (y : Form K) → SameForm w keys nodes k name x y
+      form_same : (others : Step → Bool) (name : Text) (x : NodeForm K) (y : Form K) → SameForm w keys nodes k name x y
           → ((e : NodeEdge) (b : Below) (edge : Edge S) → FormsAsk name x y e b edge → f e b ≡ g edge (place_below p b))
-          → node_part w.keywords w.matcher nodes (subject w instance) c i path p f name x ≡ part_outcome w instance c k path p g name y
-      form_same name (node_keyword m es) (keyword m' requests absorbed) s h =
+          → node_part w.keywords w.matcher nodes (subject w instance) c i path p f others name x ≡ part_outcome w instance c k path p g others name y
+      form_same others name (node_keyword m es) (keyword m' requests absorbed) s h =
           let x : Subject = subject w instance p in
           let qs : List Question = w.keywords.may_ask m' x in
           let each = keyword_asked accepted f g name m es m' requests absorbed s h in
-          (λ j. keyword_outcome w.keywords (at_same j) name (s.0 j) x (matching w.matcher c) (node_asked w.keywords w.matcher nodes (subject w instance) accepted es f))
+          (λ j. keyword_outcome w.keywords (at_same j) name (s.0 j) x (beside others (matching w.matcher c)) (node_asked w.keywords w.matcher nodes (subject w instance) accepted es f))
           ∙ same_outcome
-          (reads.holds_reads m' x (matching w.matcher c) _ _ (each_asked _ qs (λ q is. ap (λ o. o.verdict) (each q is))))
-          (ap (map (fault_error (at w instance k path p) name)) (reads.faults_read m' x (matching w.matcher c) _ _ (each_asked _ qs each)))
-          (spans_same w.keywords m' x (matching w.matcher c) _ _ (reads.spans_read m' x) each)
-      form_same name (node_reference e) (reference kind text) s h = λ j. reference_outcome (at_same j) name (reference_asked accepted f g name e kind text s h j)
-      form_same name (node_keyword m es) (reference kind text) s h = absurd s
-      form_same name (node_reference e) (keyword m' requests absorbed) s h = absurd s
+          (reads.holds_reads m' x (beside others (matching w.matcher c)) _ _ (each_asked _ qs (λ q is. ap (λ o. o.verdict) (each q is))))
+          (ap (map (fault_error (at w instance k path p) name)) (reads.faults_read m' x (beside others (matching w.matcher c)) _ _ (each_asked _ qs each)))
+          (spans_same w.keywords m' x (beside others (matching w.matcher c)) _ _ (reads.spans_read m' x) each)
+      form_same others name (node_reference e) (reference kind text) s h = λ j. reference_outcome (at_same j) name (reference_asked accepted f g name e kind text s h j)
+      form_same others name (node_keyword m es) (reference kind text) s h = absurd s
+      form_same others name (node_reference e) (keyword m' requests absorbed) s h = absurd s
 
-      pub part_same : (x : NodePart K) (y : Part K) → SamePart w keys nodes k x y
+      pub part_same : (others : Step → Bool) (x : NodePart K) (y : Part K) → SamePart w keys nodes k x y
           → ((e : NodeEdge) (b : Below) (edge : Edge S) → FormsAsk y.name x.form y.form e b edge → f e b ≡ g edge (place_below p b))
-          → node_part w.keywords w.matcher nodes (subject w instance) c i path p f x.name x.form ≡ part_outcome w instance c k path p g y.name y.form
-      part_same x y s h = ap (λ n. node_part w.keywords w.matcher nodes (subject w instance) c i path p f n x.form) s.name ∙ form_same y.name x.form y.form s.form h
+          → node_part w.keywords w.matcher nodes (subject w instance) c i path p f others x.name x.form ≡ part_outcome w instance c k path p g others y.name y.form
+      part_same others x y s h = ap (λ n. node_part w.keywords w.matcher nodes (subject w instance) c i path p f others n x.form) s.name ∙ form_same others y.name x.form y.form s.form h
 
-      parts_same : (xs : List (NodePart K)) (ys : List (Part K)) → SameParts w keys nodes k xs ys
+      span_same : (told told' : Bool) (o o' : Outcome) → told ≡ told' → o ≡ o' → ◌≡◌ {A = Step → Bool} (if told then spans_nothing else o.spans) (if told' then spans_nothing else o'.spans)
+      span_same told told' o o' t e = ap₂ (λ b (u : Outcome). if b then spans_nothing else u.spans) t e
+
+      pub others_same : (xs : List (NodePart K)) (ys : List (Part K)) → SameParts w keys nodes k xs ys
           → ((x : NodePart K) (y : Part K) → Contains xs x → Contains ys y → (e : NodeEdge) (b : Below) (edge : Edge S) → FormsAsk y.name x.form y.form e b edge → f e b ≡ g edge (place_below p b))
-          → node_parts w.keywords w.matcher nodes (subject w instance) c i path p f xs ≡ parts_outcome w instance c k path p g ys
-      parts_same [] [] s h = refl
-      parts_same (x ∷ xs) (y ∷ ys) s h = ap₂ both (part_same x y s.0 (h x y (zero, omega arith, refl) (zero, omega arith, refl))) (parts_same xs ys s.1 (λ x' y' in_x in_y. h x' y' (later x xs x' in_x) (later y ys y' in_y)))
-      parts_same [] (y ∷ ys) s h = absurd s
-      parts_same (x ∷ xs) [] s h = absurd s
+          → node_others w.keywords w.matcher nodes (subject w instance) c i path p f xs ≡ others_span w instance c k path p g ys
+      others_same [] [] s h = refl
+      others_same (x ∷ xs) (y ∷ ys) s h = ap₂ either_spans (span_same _ _ _ _ (told_same y.name x.form y.form s.0.form) (part_same spans_nothing x y s.0 (h x y (zero, omega arith, refl) (zero, omega arith, refl)))) (others_same xs ys s.1 (λ x' y' in_x in_y. h x' y' (later x xs x' in_x) (later y ys y' in_y)))
+      others_same [] (y ∷ ys) s h = absurd s
+      others_same (x ∷ xs) [] s h = absurd s
+
+      parts_same : (others : Step → Bool) (xs : List (NodePart K)) (ys : List (Part K)) → SameParts w keys nodes k xs ys
+          → ((x : NodePart K) (y : Part K) → Contains xs x → Contains ys y → (e : NodeEdge) (b : Below) (edge : Edge S) → FormsAsk y.name x.form y.form e b edge → f e b ≡ g edge (place_below p b))
+          → node_parts w.keywords w.matcher nodes (subject w instance) c i path p f others xs ≡ parts_outcome w instance c k path p g others ys
+      parts_same others [] [] s h = refl
+      parts_same others (x ∷ xs) (y ∷ ys) s h =
+          let told : told_of others (node_told w.keywords x.form) ≡ told_of others (form_told w.keywords y.form) = ap (told_of others) (told_same y.name x.form y.form s.0.form) in
+          ap₂ both
+          (ap (λ o. node_part w.keywords w.matcher nodes (subject w instance) c i path p f o x.name x.form) told ∙ part_same (told_of others (form_told w.keywords y.form)) x y s.0 (h x y (zero, omega arith, refl) (zero, omega arith, refl)))
+          (parts_same others xs ys s.1 (λ x' y' in_x in_y. h x' y' (later x xs x' in_x) (later y ys y' in_y)))
+      parts_same others [] (y ∷ ys) s h = absurd s
+      parts_same others (x ∷ xs) [] s h = absurd s
 
       plan_same : (n : NodePlan K) (o : Plan K) → nodes.entries i ≡ n → plan w k ≡ o → SamePlan w keys nodes k n o
           → ((e : NodeEdge) (b : Below) (edge : Edge S) → BothAsk w instance keys nodes i k p e b edge → f e b ≡ g edge (place_below p b))
-          → ◌≡◌ {A = Outcome} (elim n [ node_always ↦ accepted | node_never ↦ false_outcome w.keywords.texts (node_at w.keywords w.matcher nodes (subject w instance) i path p) (subject w instance p) | node_these xs ↦ kept (node_parts w.keywords w.matcher nodes (subject w instance) c i path p f xs) ])
-          (elim o [ always ↦ accepted | never ↦ false_outcome w.keywords.texts (at w instance k path p) (subject w instance p) | these ys ↦ kept (parts_outcome w instance c k path p g ys) ])
+          → ◌≡◌ {A = Outcome} (elim n [ node_always ↦ accepted | node_never ↦ false_outcome w.keywords.texts (node_at w.keywords w.matcher nodes (subject w instance) i path p) (subject w instance p) | node_these xs ↦ kept (node_parts w.keywords w.matcher nodes (subject w instance) c i path p f (node_others w.keywords w.matcher nodes (subject w instance) c i path p f xs) xs) ])
+          (elim o [ always ↦ accepted | never ↦ false_outcome w.keywords.texts (at w instance k path p) (subject w instance p) | these ys ↦ kept (parts_outcome w instance c k path p g (others_span w instance c k path p g ys) ys) ])
       plan_same node_always always is_n is_o s h = refl
       plan_same node_never never is_n is_o s h = λ j. false_outcome w.keywords.texts (at_same j) (subject w instance p)
-      plan_same (node_these xs) (these ys) is_n is_o s h = ap kept (parts_same xs ys s (whole_asks accepted f g xs ys is_n is_o h))
+      plan_same (node_these xs) (these ys) is_n is_o s h =
+          let each = whole_asks accepted f g xs ys is_n is_o h in
+          ap kept (ap (λ o. node_parts w.keywords w.matcher nodes (subject w instance) c i path p f o xs) (others_same xs ys s each) ∙ parts_same (others_span w instance c k path p g ys) xs ys s each)
       plan_same node_always never is_n is_o s h = absurd s
       plan_same node_always (these ys) is_n is_o s h = absurd s
       plan_same node_never always is_n is_o s h = absurd s

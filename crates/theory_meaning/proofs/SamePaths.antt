@@ -1,15 +1,18 @@
 -- The run of a question for its verdict is the same with each evaluation path, except for the paths
 -- of the sites that it meets.
-use Rattle.std.proofs.Common.{◌≡◌, ℕ, zero, suc, ◌==◌, Bool, true, false, List, [], ◌∷◌, ◌++◌, refl, subst, sym, ap, ap₂}
-use Rattle.std.specs.Prelude.{Option, Some, None, if◌then◌else◌, is_some, ◌&&◌}
-use Rattle.std.specs.List.{list_any}
-use Rattle.theory_definitions.specs.Instance.{Text, Place, Subject}
-use Rattle.theory_definitions.specs.Matching.{Assumptions, Completion, Match, Matcher, completed, completion_of, finished, matching, unfinished}
-use Rattle.theory_definitions.specs.Keywords.{Below, Keywords, Marked, Question, Reply, Turn, ask, done, ecma, for_verdict, here, mark, match_text, no_reply, truth, unmark, is_spanned}
-use Rattle.theory_definitions.specs.Reports.{Outcome, accepted}
-use Rattle.theory_definitions.specs.Meaning.{Where, false_outcome, place_below, kept}
-use Rattle.theory_definitions.specs.Runs.{Met, Run, no_run, plan_met, reply_in, site_at, turns, with_mark, without_last}
-use Rattle.theory_definitions.specs.Guarded.{NodeEdge, NodeForm, NodePart, NodePlan, Nodes, guarded_node, guarded_within, node_always, node_asked, node_at, node_child, node_keyword, node_looked, node_never, node_outcome, node_part, node_part_met, node_parts, node_reference, node_these, progress_below, same_edge, yes_outcome, yes_run}
+use Rattle.std.proofs.Common.{◌≡◌, ℕ, zero, suc, ◌==◌, Bool, true, false, List, [], ◌∷◌, ◌++◌, refl, subst, sym, ap, ap₂, cond, ◌||◌}
+use Rattle.std.specs.Prelude.{Option, Some, None, if◌then◌else◌, is_some, ◌&&◌, flat_map}
+use Rattle.std.specs.List.{filter, list_all, list_any}
+use Rattle.theory_definitions.specs.Instance.{Text, Place, Subject, Step}
+use Rattle.theory_definitions.specs.Matching.{Assumptions, Match, Matcher, completed, completion_of, finished, unfinished}
+use Rattle.theory_definitions.specs.Keywords.{Below, Keywords, Marked, Question, Reply, Turn, ask, done, ecma, for_verdict, here, mark, match_text, no_reply, truth, unmark, is_spanned, Span, child_at, child_here, chosen, every, of_child, of_choice, one, one_accepted, one_matched, same_question, span_asked}
+use Rattle.theory_definitions.specs.Reports.{Outcome, spans_nothing}
+use Rattle.theory_definitions.specs.Meaning.{Where, place_below, told_of}
+use Rattle.theory_definitions.specs.Runs.{Met, Run, no_run, plan_met, reply_in, site_at, turns, with_mark, without_last, Looked, is_asked, node_met, once, option_met, others_met, plan_spanning, run_accepts, span_met, spanning_met, without_verdict}
+use Rattle.theory_definitions.specs.Guarded.{NodeEdge, NodeForm, NodePart, NodePlan, Nodes, guarded_node, guarded_within, node_always, node_asked, node_at, node_child, node_keyword, node_looked, node_never, node_part_met, node_reference, node_these, progress_below, same_edge, yes_run, node_looked_at, node_others, node_part_spanning, node_told}
+use Rattle.theory_meaning.proofs.Alike.{node_alike, others_alike, part_alike, verdict_by_any_path}
+use Rattle.theory_meaning.specs.Members.{SaysAlike}
+use Rattle.theory_meaning.proofs.SpansRead.{}
 use Rattle.theory_definitions.specs.Remembering.{AlwaysAsksVerdict, AsksVerdict, EachAsksVerdicts, PathsKeepRuns, PathsKeepVerdicts, SameMets, SameRuns}
 
 pub same_append : (xs xs' ys ys' : List Met) → SameMets xs xs' → SameMets ys ys' → SameMets (xs ++ ys) (xs' ++ ys')
@@ -32,13 +35,13 @@ same_rest b b' xs ys e h = subst (λ (t : Bool). SameMets (elim b [ true ↦ xs 
 
 -- ---- a keyword's turns
 
-module _ {K R : Type 0} (keywords : Keywords K R) (matcher : Matcher) (as' : Assumptions) (x y : Where) (s : Subject) (f g : Question → Run) (same : Marked → Marked → Bool) (name : Text) (m : K)
+module _ {K R : Type 0} (keywords : Keywords K R) (matcher : Matcher) (as' : Assumptions) (x y : Where) (s : Subject) (f g : Question → Run) (others : Step → Bool) (same : Marked → Marked → Bool) (name : Text) (m : K)
     (alike : (q : Question) → SameRuns (f q) (g q)) where
   abbrev One : ℕ → List Marked → R → Reply → List Met
-  One = turns keywords matcher as' x s f same name m
+  One = turns keywords matcher as' x s f others same name m
 
   abbrev Other : ℕ → List Marked → R → Reply → List Met
-  Other = turns keywords matcher as' y s g same name m
+  Other = turns keywords matcher as' y s g others same name m
 
   pub same_turns : (n : ℕ) (marks : List Marked) (r : R) (reply : Reply) → AlwaysAsksVerdict keywords m s n r reply → SameMets (One n marks r reply) (Other n marks r reply)
   same_turns zero marks r reply h = tt
@@ -55,7 +58,7 @@ module _ {K R : Type 0} (keywords : Keywords K R) (matcher : Matcher) (as' : Ass
             | mark i ↦ One n (with_mark same i marks) r' (truth (list_any (same i) marks))
             | unmark ↦ One n (without_last marks) r' no_reply
             | ecma text ↦ One n marks r' (truth (matcher.is_ecma text))
-            | is_spanned step ↦ One n marks r' (truth false)
+            | is_spanned step ↦ One n marks r' (truth (others step))
             | done ↦ []
           ])
           (elim t [
@@ -67,7 +70,7 @@ module _ {K R : Type 0} (keywords : Keywords K R) (matcher : Matcher) (as' : Ass
             | mark i ↦ Other n (with_mark same i marks) r' (truth (list_any (same i) marks))
             | unmark ↦ Other n (without_last marks) r' no_reply
             | ecma text ↦ Other n marks r' (truth (matcher.is_ecma text))
-            | is_spanned step ↦ Other n marks r' (truth false)
+            | is_spanned step ↦ Other n marks r' (truth (others step))
             | done ↦ []
           ])
       go r' (ask q mode) e rest =
@@ -91,38 +94,112 @@ module _ {K R : Type 0} (keywords : Keywords K R) (matcher : Matcher) (as' : Ass
       go r' (mark i) e rest = rest (with_mark same i marks) (truth (list_any (same i) marks))
       go r' unmark e rest = rest (without_last marks) no_reply
       go r' (ecma text) e rest = rest marks (truth (matcher.is_ecma text))
-      go r' (is_spanned step) e rest = rest marks (truth false)
+      go r' (is_spanned step) e rest = rest marks (truth (others step))
       go r' done e rest = tt
 
--- ---- the verdict of a node, given the answers of its edges
+-- ---- a keyword that is run for what it spans
 
-module _ {K R : Type 0} (keywords : Keywords K R) (matcher : Matcher) (nodes : Nodes K) (subject_of : Place → Subject) (c : Completion) (i : ℕ) (path path' : Text) (p : Place) (f g : NodeEdge → Below → Outcome)
-    (verdicts : (e : NodeEdge) (b : Below) → (f e b).verdict ≡ (g e b).verdict) where
-  option_verdict : (o : Option NodeEdge) (b : Below)
-      → ◌≡◌ {A = Bool} (let r : Outcome = elim o [ None ↦ accepted | Some e ↦ f e b ] in r.verdict) (let r : Outcome = elim o [ None ↦ accepted | Some e ↦ g e b ] in r.verdict)
-  option_verdict None b = refl
-  option_verdict (Some e) b = verdicts e b
+module _ {K R : Type 0} (keywords : Keywords K R) (matcher : Matcher) (as' : Assumptions) (x y : Where) (s : Subject) (f g : Question → Run) (same : Marked → Marked → Bool) (name : Text) (m : K)
+    (asks : AlwaysAsksVerdict keywords m s (keywords.most_turns m s) (keywords.begin m s for_verdict) no_reply) (alike : (q : Question) → SameRuns (f q) (g q)) where
+  without_alike : (b : Bool) (r r' : Run) → SameRuns r r' → SameRuns (without_verdict b r) (without_verdict b r')
+  without_alike true r r' h = record { verdict = h.verdict; met = tt; spans = h.spans; spanning = h.spanning }
+  without_alike false r r' h = h
 
-  pub part_verdict : (name : Text) (form : NodeForm K)
-      → (node_part keywords matcher nodes subject_of c i path p f name form).verdict ≡ (node_part keywords matcher nodes subject_of c i path' p g name form).verdict
-  part_verdict name (node_keyword m es) = ap (keywords.holds m (subject_of p) (matching matcher c)) (λ j q. option_verdict (node_child es q.child) q.below j)
-  part_verdict name (node_reference e) = verdicts e here
+  once_alike : (q : Question) → SameRuns (once keywords matcher as' x s f same name m q) (once keywords matcher as' y s g same name m q)
+  once_alike q =
+      let asked : is_asked keywords matcher as' x s f same name m q ≡ is_asked keywords matcher as' y s g same name m q
+      = ap (λ (accepts : Question → Bool). list_any (λ p. list_any (same_question q) (span_asked accepts p)) (keywords.spans m s)) (λ j r. (alike r).verdict j) in
+      subst (λ b. SameRuns (without_verdict (is_asked keywords matcher as' x s f same name m q) (f q)) (without_verdict b (g q))) asked (without_alike (is_asked keywords matcher as' x s f same name m q) (f q) (g q) (alike q))
 
-  parts_verdict : (xs : List (NodePart K))
-      → (node_parts keywords matcher nodes subject_of c i path p f xs).verdict ≡ (node_parts keywords matcher nodes subject_of c i path' p g xs).verdict
-  parts_verdict [] = refl
-  parts_verdict (x ∷ xs) = ap₂ ◌&&◌ (part_verdict x.name x.form) (parts_verdict xs)
+  option_same : (i : Option ℕ) → SameMets (option_met keywords matcher as' x s f same name m i) (option_met keywords matcher as' y s g same name m i)
+  option_same None = tt
+  option_same (Some i) = (alike (child_here i)).spanning
 
-  plan_verdict : (o : NodePlan K)
-      → ◌≡◌ {A = Bool}
-      (let r : Outcome = elim o [ node_always ↦ accepted | node_never ↦ false_outcome keywords.texts (node_at keywords matcher nodes subject_of i path p) (subject_of p) | node_these xs ↦ kept (node_parts keywords matcher nodes subject_of c i path p f xs) ] in r.verdict)
-      (let r : Outcome = elim o [ node_always ↦ accepted | node_never ↦ false_outcome keywords.texts (node_at keywords matcher nodes subject_of i path' p) (subject_of p) | node_these xs ↦ kept (node_parts keywords matcher nodes subject_of c i path' p g xs) ] in r.verdict)
-  plan_verdict node_always = refl
-  plan_verdict node_never = refl
-  plan_verdict (node_these xs) = parts_verdict xs
+  span_same : (p : Span) → SameMets (span_met keywords matcher as' x s f same name m p) (span_met keywords matcher as' y s g same name m p)
+  span_same every = tt
+  span_same (one step) = tt
+  span_same (one_matched a point step) = by_match (matcher.is_match a.pattern a.subject)
+    where
+      by_match : (t : Match) → SameMets (elim t [ finished b ↦ [] | unfinished reason ↦ record { pair = a; site = site_at x name point } ∷ [] ]) (elim t [ finished b ↦ [] | unfinished reason ↦ record { pair = a; site = site_at y name point } ∷ [] ])
+      by_match (finished b) = tt
+      by_match (unfinished reason) = ((refl, same_located point.located _ _), tt)
+  span_same (one_accepted i step) = (alike (child_at i step)).met
+  span_same (of_child i) = (alike (child_here i)).spanning
+  span_same (of_choice i first second) = same_append _ _ _ _ (alike (child_here i)).spanning
+      (subst (λ v. SameMets (option_met keywords matcher as' x s f same name m (chosen (run_accepts keywords matcher as' x s f same name m (child_here i)) first second)) (option_met keywords matcher as' y s g same name m (chosen v first second)))
+      (alike (child_here i)).verdict (option_same (chosen (run_accepts keywords matcher as' x s f same name m (child_here i)) first second)))
 
-  pub node_verdict : (node_outcome keywords matcher nodes subject_of c i path p f).verdict ≡ (node_outcome keywords matcher nodes subject_of c i path' p g).verdict
-  node_verdict = plan_verdict (nodes.entries i)
+  spans_same : (ps : List Span) → SameMets (flat_map (span_met keywords matcher as' x s f same name m) ps) (flat_map (span_met keywords matcher as' y s g same name m) ps)
+  spans_same [] = tt
+  spans_same (p ∷ ps) = same_append _ _ _ _ (span_same p) (spans_same ps)
+
+  pub spanning_same : SameMets (spanning_met keywords matcher as' x s f same name m) (spanning_met keywords matcher as' y s g same name m)
+  spanning_same = same_append _ _ _ _ (spans_same (keywords.spans m s))
+      (same_turns keywords matcher as' x y s (once keywords matcher as' x s f same name m) (once keywords matcher as' y s g same name m) spans_nothing same name m once_alike (keywords.most_turns m s) [] (keywords.begin m s for_verdict) no_reply asks)
+
+-- ---- a plan
+
+-- Two entries that hold alike and are told alike, and whose runs for the verdict and for the span
+-- meet the same matches.
+record LookedAlike (a b : Looked) : Type 0 where
+  is_told : a.is_told ≡ b.is_told
+  holds : a.holds ≡ b.holds
+  met : SameMets (a.met for_verdict) (b.met for_verdict)
+  spanning : SameMets a.spanning b.spanning
+
+abbrev AllAlike : List Looked → List Looked → Type 0
+AllAlike [] [] = Unit {0}
+AllAlike (a ∷ ls) (b ∷ ms) = LookedAlike a b × AllAlike ls ms
+AllAlike [] (b ∷ ms) = ⊥
+AllAlike (a ∷ ls) [] = ⊥
+
+same_either : (b b' : Bool) (xs ys us vs : List Met) → b ≡ b' → SameMets xs ys → SameMets us vs → SameMets (elim b [ true ↦ xs | false ↦ us ]) (elim b' [ true ↦ ys | false ↦ vs ])
+same_either b b' xs ys us vs e h k = subst (λ (t : Bool). SameMets (elim b [ true ↦ xs | false ↦ us ]) (elim t [ true ↦ ys | false ↦ vs ])) e (at b)
+  where
+    at : (t : Bool) → SameMets (elim t [ true ↦ xs | false ↦ us ]) (elim t [ true ↦ ys | false ↦ vs ])
+    at true = h
+    at false = k
+
+verdicts_met : (ls ms : List Looked) → AllAlike ls ms → SameMets (plan_met for_verdict ls) (plan_met for_verdict ms)
+verdicts_met [] [] h = tt
+verdicts_met (a ∷ ls) (b ∷ ms) h = same_append (a.met for_verdict) (b.met for_verdict) _ _ h.0.met (same_rest _ _ _ _ h.0.holds (verdicts_met ls ms h.1))
+verdicts_met [] (b ∷ ms) h = absurd h
+verdicts_met (a ∷ ls) [] h = absurd h
+
+others_same_met : (ls ms : List Looked) → AllAlike ls ms → SameMets (others_met ls) (others_met ms)
+others_same_met [] [] h = tt
+others_same_met (a ∷ ls) (b ∷ ms) h = same_either _ _ _ _ _ _ h.0.is_told (others_same_met ls ms h.1) (same_append a.spanning b.spanning _ _ h.0.spanning (same_rest _ _ _ _ h.0.holds (others_same_met ls ms h.1)))
+others_same_met [] (b ∷ ms) h = absurd h
+others_same_met (a ∷ ls) [] h = absurd h
+
+told_alike : (ls ms : List Looked) → AllAlike ls ms → AllAlike (filter (λ x. x.is_told) ls) (filter (λ x. x.is_told) ms)
+told_alike [] [] h = tt
+told_alike (a ∷ ls) (b ∷ ms) h = subst (λ (t : Bool). AllAlike (cond a.is_told (a ∷ filter (λ x. x.is_told) ls) (filter (λ x. x.is_told) ls)) (cond t (b ∷ filter (λ x. x.is_told) ms) (filter (λ x. x.is_told) ms))) h.0.is_told (at a.is_told (told_alike ls ms h.1))
+  where
+    at : (t : Bool) → AllAlike (filter (λ x. x.is_told) ls) (filter (λ x. x.is_told) ms) → AllAlike (cond t (a ∷ filter (λ x. x.is_told) ls) (filter (λ x. x.is_told) ls)) (cond t (b ∷ filter (λ x. x.is_told) ms) (filter (λ x. x.is_told) ms))
+    at true rest = (h.0, rest)
+    at false rest = rest
+told_alike [] (b ∷ ms) h = absurd h
+told_alike (a ∷ ls) [] h = absurd h
+
+hold_alike : (ls ms : List Looked) → AllAlike ls ms → list_all (λ x. x.is_told || x.holds) ls ≡ list_all (λ x. x.is_told || x.holds) ms
+hold_alike [] [] h = refl
+hold_alike (a ∷ ls) (b ∷ ms) h = ap₂ ◌&&◌ (ap₂ (λ s t. s || t) h.0.is_told h.0.holds) (hold_alike ls ms h.1)
+hold_alike [] (b ∷ ms) h = absurd h
+hold_alike (a ∷ ls) [] h = absurd h
+
+some_told : (ls ms : List Looked) → AllAlike ls ms → list_any (λ x. x.is_told) ls ≡ list_any (λ x. x.is_told) ms
+some_told [] [] h = refl
+some_told (a ∷ ls) (b ∷ ms) h = ap₂ (λ s t. s || t) h.0.is_told (some_told ls ms h.1)
+some_told [] (b ∷ ms) h = absurd h
+some_told (a ∷ ls) [] h = absurd h
+
+plan_spanning_met : (ls ms : List Looked) → AllAlike ls ms → SameMets (plan_spanning ls) (plan_spanning ms)
+plan_spanning_met ls ms h = same_append _ _ _ _ (others_same_met ls ms h)
+    (same_rest _ _ _ _ (hold_alike ls ms h) (verdicts_met (filter (λ x. x.is_told) ls) (filter (λ x. x.is_told) ms) (told_alike ls ms h)))
+
+node_verdict_met : (ls ms : List Looked) → AllAlike ls ms → SameMets (node_met for_verdict ls) (node_met for_verdict ms)
+node_verdict_met ls ms h = same_either _ _ _ _ _ _ (some_told ls ms h) (plan_spanning_met ls ms h) (verdicts_met ls ms h)
 
 -- ---- the run of a node, given the answers of its edges
 
@@ -131,33 +208,55 @@ module _ {K R : Type 0} (keywords : Keywords K R) (matcher : Matcher) (nodes : N
   told h e b = (h e b).outcome tt
 
   module _ (asks : EachAsksVerdicts keywords) (alike : (e : NodeEdge) (b : Below) → SameRuns (f e b) (g e b)) where
+    outcomes : (e : NodeEdge) (b : Below) → SaysAlike (told f e b) (told g e b)
+    outcomes e b = record { verdict = (alike e b).verdict; spans = (alike e b).spans }
+
     option_alike : (o : Option NodeEdge) (b : Below) → SameRuns (elim o [ None ↦ no_run | Some e ↦ f e b ]) (elim o [ None ↦ no_run | Some e ↦ g e b ])
-    option_alike None b = record { verdict = refl; met = tt }
+    option_alike None b = record { verdict = refl; met = tt; spans = refl; spanning = tt }
     option_alike (Some e) b = alike e b
 
-    part_met : (name : Text) (form : NodeForm K)
-        → SameMets (node_part_met keywords matcher nodes subject_of as' i path p f name form for_verdict) (node_part_met keywords matcher nodes subject_of as' i path' p g name form for_verdict)
-    part_met name (node_keyword m es) = same_turns keywords matcher as' (node_at keywords matcher nodes subject_of i path p) (node_at keywords matcher nodes subject_of i path' p) (subject_of p)
-        (node_asked keywords matcher nodes subject_of no_run es f) (node_asked keywords matcher nodes subject_of no_run es g) (same_edge es) name m (λ q. option_alike (node_child es q.child) q.below)
+    part_met : (others : Step → Bool) (name : Text) (form : NodeForm K)
+        → SameMets (node_part_met keywords matcher nodes subject_of as' i path p f others name form for_verdict) (node_part_met keywords matcher nodes subject_of as' i path' p g others name form for_verdict)
+    part_met others name (node_keyword m es) = same_turns keywords matcher as' (node_at keywords matcher nodes subject_of i path p) (node_at keywords matcher nodes subject_of i path' p) (subject_of p)
+        (node_asked keywords matcher nodes subject_of no_run es f) (node_asked keywords matcher nodes subject_of no_run es g) others (same_edge es) name m (λ q. option_alike (node_child es q.child) q.below)
         (keywords.most_turns m (subject_of p)) [] (keywords.begin m (subject_of p) for_verdict) no_reply (asks m (subject_of p))
-    part_met name (node_reference e) = (alike e here).met
+    part_met others name (node_reference e) = (alike e here).met
 
-    looked_met : (xs : List (NodePart K))
-        → SameMets (plan_met for_verdict (node_looked keywords matcher nodes subject_of as' i path p f xs)) (plan_met for_verdict (node_looked keywords matcher nodes subject_of as' i path' p g xs))
-    looked_met [] = tt
-    looked_met (x ∷ xs) = same_append
-        (node_part_met keywords matcher nodes subject_of as' i path p f x.name x.form for_verdict) (node_part_met keywords matcher nodes subject_of as' i path' p g x.name x.form for_verdict) _ _
-        (part_met x.name x.form) (same_rest _ _ _ _ (part_verdict keywords matcher nodes subject_of (completion_of as') i path path' p (told f) (told g) (λ e b. (alike e b).verdict) x.name x.form) (looked_met xs))
+    part_spanning : (name : Text) (form : NodeForm K) → SameMets (node_part_spanning keywords matcher nodes subject_of as' i path p f name form) (node_part_spanning keywords matcher nodes subject_of as' i path' p g name form)
+    part_spanning name (node_keyword m es) = spanning_same keywords matcher as' (node_at keywords matcher nodes subject_of i path p) (node_at keywords matcher nodes subject_of i path' p) (subject_of p)
+        (node_asked keywords matcher nodes subject_of no_run es f) (node_asked keywords matcher nodes subject_of no_run es g) (same_edge es) name m (asks m (subject_of p)) (λ q. option_alike (node_child es q.child) q.below)
+    part_spanning name (node_reference e) = (alike e here).spanning
 
-    plan_meets : (o : NodePlan K)
-        → SameMets (elim o [ node_always ↦ [] | node_never ↦ [] | node_these xs ↦ plan_met for_verdict (node_looked keywords matcher nodes subject_of as' i path p f xs) ])
-        (elim o [ node_always ↦ [] | node_never ↦ [] | node_these xs ↦ plan_met for_verdict (node_looked keywords matcher nodes subject_of as' i path' p g xs) ])
-    plan_meets node_always = tt
-    plan_meets node_never = tt
-    plan_meets (node_these xs) = looked_met xs
+    looked_alike : (others : Step → Bool) (xs : List (NodePart K)) → AllAlike (node_looked keywords matcher nodes subject_of as' i path p f others xs) (node_looked keywords matcher nodes subject_of as' i path' p g others xs)
+    looked_alike others [] = tt
+    looked_alike others (x ∷ xs) = let t = told_of others (node_told keywords x.form) in (
+      record {
+        is_told = refl;
+        holds = (part_alike keywords matcher nodes subject_of (completion_of as') i path path' p (told f) (told g) outcomes t x.name x.form).verdict;
+        met = part_met t x.name x.form;
+        spanning = part_spanning x.name x.form;
+      },
+      looked_alike others xs,
+    )
 
-    pub node_alike : SameRuns (guarded_node keywords matcher nodes subject_of as' i path p f) (guarded_node keywords matcher nodes subject_of as' i path' p g)
-    node_alike = record { verdict = node_verdict keywords matcher nodes subject_of (completion_of as') i path path' p (told f) (told g) (λ e b. (alike e b).verdict); met = plan_meets (nodes.entries i) }
+    looked_at_alike : (xs : List (NodePart K)) → AllAlike (node_looked_at keywords matcher nodes subject_of as' i path p f xs) (node_looked_at keywords matcher nodes subject_of as' i path' p g xs)
+    looked_at_alike xs = subst (λ o. AllAlike (node_looked_at keywords matcher nodes subject_of as' i path p f xs) (node_looked keywords matcher nodes subject_of as' i path' p g o xs))
+        (others_alike keywords matcher nodes subject_of (completion_of as') i path path' p (told f) (told g) outcomes xs) (looked_alike (node_others keywords matcher nodes subject_of (completion_of as') i path p (told f) xs) xs)
+
+    plan_meets : (answer : List Looked → List Met) → ((ls ms : List Looked) → AllAlike ls ms → SameMets (answer ls) (answer ms)) → (o : NodePlan K)
+        → SameMets (elim o [ node_always ↦ [] | node_never ↦ [] | node_these xs ↦ answer (node_looked_at keywords matcher nodes subject_of as' i path p f xs) ])
+        (elim o [ node_always ↦ [] | node_never ↦ [] | node_these xs ↦ answer (node_looked_at keywords matcher nodes subject_of as' i path' p g xs) ])
+    plan_meets answer same node_always = tt
+    plan_meets answer same node_never = tt
+    plan_meets answer same (node_these xs) = same _ _ (looked_at_alike xs)
+
+    pub node_runs_alike : SameRuns (guarded_node keywords matcher nodes subject_of as' i path p f) (guarded_node keywords matcher nodes subject_of as' i path' p g)
+    node_runs_alike = let says = node_alike keywords matcher nodes subject_of (completion_of as') i path path' p (told f) (told g) outcomes in record {
+      verdict = says.verdict;
+      met = plan_meets (node_met for_verdict) node_verdict_met (nodes.entries i);
+      spans = says.spans;
+      spanning = plan_meets plan_spanning plan_spanning_met (nodes.entries i);
+    }
 
 -- ---- at each depth
 
@@ -178,9 +277,9 @@ module _ {X : Type 0} (yes : ℕ → Text → Place → X) (node : ℕ → Text 
 
 module _ {K R : Type 0} (keywords : Keywords K R) where
   pub paths_keep_verdicts : PathsKeepVerdicts keywords
-  paths_keep_verdicts matcher nodes subject_of c n i path path' p busy =
-      within_same yes_outcome (node_outcome keywords matcher nodes subject_of c) (λ a b. a.verdict ≡ b.verdict) (λ j q q' r. refl) (λ j q q' r f g h. node_verdict keywords matcher nodes subject_of c j q q' r f g h) n i path path' p busy
+  paths_keep_verdicts matcher nodes subject_of c n i path path' p busy = verdict_by_any_path keywords matcher nodes subject_of c n i path path' p busy
 
   pub paths_keep_runs : PathsKeepRuns keywords
   paths_keep_runs asks matcher nodes subject_of as' n i path path' p busy =
-      within_same (yes_run nodes) (guarded_node keywords matcher nodes subject_of as') SameRuns (λ j q q' r. record { verdict = refl; met = tt }) (λ j q q' r f g h. node_alike keywords matcher nodes subject_of as' j q q' r f g asks h) n i path path' p busy
+      within_same (yes_run nodes) (guarded_node keywords matcher nodes subject_of as') SameRuns (λ j q q' r. record { verdict = refl; met = tt; spans = refl; spanning = tt })
+      (λ j q q' r f g h. node_runs_alike keywords matcher nodes subject_of as' j q q' r f g asks h) n i path path' p busy

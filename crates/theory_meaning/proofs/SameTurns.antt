@@ -3,9 +3,9 @@
 use Rattle.std.proofs.Common.{◌≡◌, ℕ, zero, suc, List, [], ◌∷◌, ◌++◌, refl, ap, sym, subst, ◌∙◌, Bool, true, false, not, cond, map}
 use Rattle.std.specs.Prelude.{Option, Some, None, find, is_some}
 use Rattle.std.specs.List.{list_any}
-use Rattle.theory_definitions.specs.Instance.{Text, Subject}
+use Rattle.theory_definitions.specs.Instance.{Step, Text, Subject}
 use Rattle.theory_definitions.specs.Reports.{Error, Unit_, report_of, Outcome}
-use Rattle.theory_definitions.specs.Matching.{Match, finished, unfinished, Matcher, Matching, matching, settled, Completion, completed, Assumptions, assumed, completion_of, Extends}
+use Rattle.theory_definitions.specs.Matching.{Match, finished, unfinished, Matcher, Matching, beside, matching, settled, Completion, completed, Assumptions, assumed, completion_of, Extends}
 use Rattle.theory_definitions.specs.Keywords.{Marked, Question, Mode, for_verdict, for_first, for_all, for_units, Fault, Reply, no_reply, truth, first_of_it, all_of_it, unit_of_it, Turn, ask, match_text, mark, unmark, ecma, done, Keywords, is_spanned}
 use Rattle.theory_definitions.specs.Meaning.{Where, keyword_outcome, fault_error}
 use Rattle.theory_definitions.specs.Runs.{Met, site_at, Run, first_error, reply_in, turns, keyword_met, with_mark, without_last}
@@ -42,8 +42,19 @@ assumed_front as' xs ys e = none-front (λ m. not (is_some (assumed as' m.pair))
 pub assumed_back : (as' : Assumptions) (xs ys : List Met) → AllAssumed as' (xs ++ ys) → AllAssumed as' ys
 assumed_back as' xs ys e = none-back (λ m. not (is_some (assumed as' m.pair))) xs ys e
 
+none-both : {A : Type 0} (p : A → Bool) (xs ys : List A) → find p xs ≡ None → find p ys ≡ None → find p (xs ++ ys) ≡ None
+none-both p [] ys e h = h
+none-both {A} p (x ∷ xs) ys e h = go (p x) e (λ k. none-both p xs ys k h)
+  where
+    go : (b : Bool) → cond b (Some x) (find p xs) ≡ None → (find p xs ≡ None → find p (xs ++ ys) ≡ None) → cond b (Some x) (find p (xs ++ ys)) ≡ None
+    go true is k = absurd (cc is)
+    go false is k = k is
+
+pub assumed_both : (as' : Assumptions) (xs ys : List Met) → AllAssumed as' xs → AllAssumed as' ys → AllAssumed as' (xs ++ ys)
+assumed_both as' xs ys e h = none-both (λ m. not (is_some (assumed as' m.pair))) xs ys e h
+
 -- The first of the list is assumed.
-assumed_head : (as' : Assumptions) (m : Met) (ms : List Met) → AllAssumed as' (m ∷ ms) → (b : Bool) × (assumed as' m.pair ≡ Some b)
+pub assumed_head : (as' : Assumptions) (m : Met) (ms : List Met) → AllAssumed as' (m ∷ ms) → (b : Bool) × (assumed as' m.pair ≡ Some b)
 assumed_head as' m ms e = go (assumed as' m.pair) refl e
   where
     go : (o : Option Bool) → assumed as' m.pair ≡ o → cond (not (is_some o)) (Some m) (find (λ x. not (is_some (assumed as' x.pair))) ms) ≡ None → (b : Bool) × (assumed as' m.pair ≡ Some b)
@@ -54,14 +65,14 @@ assumed_tail : (as' : Assumptions) (m : Met) (ms : List Met) → AllAssumed as' 
 assumed_tail as' m ms e = assumed_back as' (m ∷ []) ms e
 
 module _ {K R : Type 0} (keywords : Keywords K R) (matcher : Matcher) (as' : Assumptions) (c : Completion) (mine : Extends (completion_of as') as') (ext : Extends c as')
-    (x : Where) (s : Subject) (run_of : Question → Run) (a1 a2 : Question → Outcome) (u1 u2 : Question → Unit_) (same : Marked → Marked → Bool) (name : Text) (m : K)
+    (x : Where) (s : Subject) (run_of : Question → Run) (a1 a2 : Question → Outcome) (u1 u2 : Question → Unit_) (others : Step → Bool) (same : Marked → Marked → Bool) (name : Text) (m : K)
     (o_is : (q : Question) → (run_of q).outcome tt ≡ a1 q) (u_is : (q : Question) → (run_of q).units tt ≡ u1 q)
     (speaks : (q : Question) → Speaks as' (run_of q) (a2 q) (u2 q)) (alike_1 : AnsweredAlike same a1) (alike_2 : AnsweredAlike same a2) where
   abbrev WhenAssumed : Matching
-  WhenAssumed = matching matcher (completion_of as')
+  WhenAssumed = beside others (matching matcher (completion_of as'))
 
   abbrev WhenCompleted : Matching
-  WhenCompleted = matching matcher c
+  WhenCompleted = beside others (matching matcher c)
 
   reply_1 : (mode : Mode) (q : Question) → reply_in mode (run_of q) ≡ answer_in keywords m s WhenAssumed a1 u1 same mode q
   reply_1 for_verdict q = ap (λ o. truth o.verdict) (o_is q)
@@ -82,7 +93,7 @@ module _ {K R : Type 0} (keywords : Keywords K R) (matcher : Matcher) (as' : Ass
   Ended2 = ended keywords m s WhenCompleted a2 u2 same
 
   abbrev MetIn : ℕ → List Marked → R → Reply → List Met
-  MetIn = turns keywords matcher as' x s run_of same name m
+  MetIn = turns keywords matcher as' x s run_of others same name m
 
   same_ends : (n : ℕ) (marks : List Marked) (r : R) (reply : Reply) → AllAssumed as' (MetIn n marks r reply) → Ended1 n marks r reply ≡ Ended2 n marks r reply
   same_ends zero marks r reply e = refl
@@ -99,7 +110,7 @@ module _ {K R : Type 0} (keywords : Keywords K R) (matcher : Matcher) (as' : Ass
             | mark i ↦ MetIn n (with_mark same i marks) (keywords.turn m s r reply) (truth (list_any (same i) marks))
             | unmark ↦ MetIn n (without_last marks) (keywords.turn m s r reply) no_reply
             | ecma text ↦ MetIn n marks (keywords.turn m s r reply) (truth (matcher.is_ecma text))
-            | is_spanned step ↦ MetIn n marks (keywords.turn m s r reply) (truth false)
+            | is_spanned step ↦ MetIn n marks (keywords.turn m s r reply) (truth (others step))
             | done ↦ []
           ])
           → ◌≡◌ {A = Option R} (elim t [
@@ -142,7 +153,7 @@ module _ {K R : Type 0} (keywords : Keywords K R) (matcher : Matcher) (as' : Ass
       go (mark i) rest h = rest (with_mark same i marks) (truth (list_any (same i) marks)) h
       go unmark rest h = rest (without_last marks) no_reply h
       go (ecma text) rest h = rest marks (truth (matcher.is_ecma text)) h
-      go (is_spanned step) rest h = rest marks (truth false) h
+      go (is_spanned step) rest h = rest marks (truth (others step)) h
       go done rest h = refl
 
   module _ (absorbed : List Text) (laws : KeepsLaws keywords m absorbed) where
@@ -153,7 +164,7 @@ module _ {K R : Type 0} (keywords : Keywords K R) (matcher : Matcher) (as' : Ass
     valid_1 q = sym (ap (λ u. (report_of u).valid) (u_is q)) ∙ ((speaks q).run_valid ∙ ap (λ o. o.verdict) (o_is q))
 
     -- The answer is right for the run and for the completion.
-    both_right : (mode : Mode) → AllAssumed as' (keyword_met keywords matcher as' x s run_of same name m mode)
+    both_right : (mode : Mode) → AllAssumed as' (keyword_met keywords matcher as' x s run_of others same name m mode)
         → (r : R) × IsRight keywords m s WhenAssumed a1 u1 same mode (keywords.answer r) × IsRight keywords m s WhenCompleted a2 u2 same mode (keywords.answer r)
     both_right mode e =
         let (r, is, right) = laws.answers s mode WhenAssumed a1 u1 same agrees_1 valid_1 alike_1 in
@@ -161,23 +172,23 @@ module _ {K R : Type 0} (keywords : Keywords K R) (matcher : Matcher) (as' : Ass
         let one : ◌≡◌ {A = Option R} (Some r) (Some t) = sym is ∙ (same_ends (keywords.most_turns m s) [] (keywords.begin m s mode) no_reply e ∙ is') in
         (r, right, subst (λ z. IsRight keywords m s WhenCompleted a2 u2 same mode (keywords.answer z)) (sym (ap (λ o. elim o [ Some z ↦ z | None ↦ r ]) one)) right')
 
-    pub same_verdict : AllAssumed as' (keyword_met keywords matcher as' x s run_of same name m for_verdict)
+    pub same_verdict : AllAssumed as' (keyword_met keywords matcher as' x s run_of others same name m for_verdict)
         → keywords.holds m s WhenAssumed (λ q. (a1 q).verdict) ≡ keywords.holds m s WhenCompleted (λ q. (a2 q).verdict)
     same_verdict e = let (r, one, two) = both_right for_verdict e in sym one ∙ two
 
-    pub same_first : AllAssumed as' (keyword_met keywords matcher as' x s run_of same name m for_first)
+    pub same_first : AllAssumed as' (keyword_met keywords matcher as' x s run_of others same name m for_first)
         → first_fault (keywords.faults m s WhenAssumed a1) ≡ first_fault (keywords.faults m s WhenCompleted a2)
     same_first e = let (r, one, two) = both_right for_first e in sym one ∙ two
 
-    pub same_faults : AllAssumed as' (keyword_met keywords matcher as' x s run_of same name m for_all)
+    pub same_faults : AllAssumed as' (keyword_met keywords matcher as' x s run_of others same name m for_all)
         → keywords.faults m s WhenAssumed a1 ≡ keywords.faults m s WhenCompleted a2
     same_faults e = let (r, one, two) = both_right for_all e in sym one ∙ two
 
-    pub same_units : AllAssumed as' (keyword_met keywords matcher as' x s run_of same name m for_units)
+    pub same_units : AllAssumed as' (keyword_met keywords matcher as' x s run_of others same name m for_units)
         → (keywords.units m s WhenAssumed u1 ≡ keywords.units m s WhenCompleted u2) × (keywords.holds m s WhenAssumed (λ q. (a1 q).verdict) ≡ keywords.holds m s WhenCompleted (λ q. (a2 q).verdict))
     same_units e = let (r, one, two) = both_right for_units e in (sym one.0 ∙ two.0, sym one.1 ∙ two.1)
 
-    pub keyword_same : (mode : Mode) → AllAssumed as' (keyword_met keywords matcher as' x s run_of same name m mode)
+    pub keyword_same : (mode : Mode) → AllAssumed as' (keyword_met keywords matcher as' x s run_of others same name m mode)
         → SameIn mode (keyword_outcome keywords x name m s WhenAssumed a1) (keyword_outcome keywords x name m s WhenCompleted a2)
     keyword_same for_verdict e = same_verdict e
     keyword_same for_first e = first_mapped (fault_error x name) _ ∙ (ap (λ fs. first_error (map (fault_error x name) fs)) (same_first e) ∙ sym (first_mapped (fault_error x name) _))

@@ -1,17 +1,17 @@
 -- What numbered nodes say becomes final at some depth, because the measure decreases with each
 -- question.
-use Rattle.std.proofs.Common.{◌≡◌, ℕ, zero, suc, ◌<◌, ◌==◌, Bool, true, false, List, [], ◌∷◌, refl, sym, subst, ap, ap₂, arith}
-use Rattle.std.specs.Prelude.{Contains, Option, Some, None, option_and_then, slice_get, filter_map, map}
+use Rattle.std.proofs.Common.{◌≡◌, ℕ, zero, suc, ◌<◌, ◌==◌, Bool, true, false, List, [], ◌∷◌, refl, sym, subst, ap, ap₂, arith, ◌∙◌}
+use Rattle.std.specs.Prelude.{Contains, Option, Some, None, option_and_then, slice_get, filter_map, map, if◌then◌else◌}
 use Rattle.std.specs.List.{list_any, cons_option}
 use Rattle.serde_json.specs.Data.{Data}
-use Rattle.theory_definitions.specs.Instance.{Text, Place, Subject}
-use Rattle.theory_definitions.specs.Reports.{Outcome, accepted}
+use Rattle.theory_definitions.specs.Instance.{Text, Place, Subject, Step}
+use Rattle.theory_definitions.specs.Reports.{Outcome, accepted, spans_nothing}
 use Rattle.theory_definitions.specs.Parts.{Parts}
-use Rattle.theory_definitions.specs.Matching.{Completion, Matcher, matching}
+use Rattle.theory_definitions.specs.Matching.{Completion, Matcher, matching, beside}
 use Rattle.theory_definitions.specs.Keywords.{Keywords, Below, here, down, Question}
-use Rattle.theory_definitions.specs.Meaning.{subject, place_below, fault_error, reference_outcome, false_outcome, both, kept}
+use Rattle.theory_definitions.specs.Meaning.{subject, place_below, fault_error, reference_outcome, false_outcome, both, kept, either_spans, told_of}
 use Rattle.theory_definitions.specs.Laws.{IsPresent, steps_below}
-use Rattle.theory_definitions.specs.Guarded.{NodeEdge, node_child, NodeForm, node_keyword, node_reference, NodePart, NodePlan, node_always, node_never, node_these, Nodes, form_edges, node_edges, progress_below, guarded_within, node_at, node_asked, node_part, node_parts, node_outcome, yes_outcome}
+use Rattle.theory_definitions.specs.Guarded.{NodeEdge, node_child, NodeForm, node_keyword, node_reference, NodePart, NodePlan, node_always, node_never, node_these, Nodes, form_edges, node_edges, progress_below, guarded_within, node_at, node_asked, node_part, node_parts, node_outcome, yes_outcome, node_others, node_told}
 use Rattle.theory_meaning.specs.Numbered.{Ranked, left, subject_in, GuardedSettles}
 use Rattle.theory_meaning.proofs.Reading.{Reads, reads_of}
 use Rattle.theory_meaning.proofs.Questions.{later, in_flat_map}
@@ -76,30 +76,42 @@ module _ {K R : Type 0} (keywords : Keywords K R) (matcher : Matcher) (instance 
     asked_same None b h = refl
     asked_same (Some e) b h = h e refl
 
-    pub part_same : (name : Text) (x : NodeForm K) → ((e : NodeEdge) (b : Below) → FormAsks x e b → f e b ≡ g e b)
-        → node_part keywords matcher nodes (subject_in instance) c i path p f name x ≡ node_part keywords matcher nodes (subject_in instance) c i path p g name x
-    part_same name (node_keyword m es) h =
+    pub part_same : (others : Step → Bool) (name : Text) (x : NodeForm K) → ((e : NodeEdge) (b : Below) → FormAsks x e b → f e b ≡ g e b)
+        → node_part keywords matcher nodes (subject_in instance) c i path p f others name x ≡ node_part keywords matcher nodes (subject_in instance) c i path p g others name x
+    part_same others name (node_keyword m es) h =
         let s : Subject = subject_in instance p in
         let qs : List Question = keywords.may_ask m s in
         let each : (q : Question) → Contains qs q → node_asked keywords matcher nodes (subject_in instance) accepted es f q ≡ node_asked keywords matcher nodes (subject_in instance) accepted es g q
         = λ q is. asked_same (node_child es q.child) q.below (λ e at_e. h e q.below (picked (λ o. o) es q.child e at_e, All-contains (λ q. IsPresent s (steps_below q.below)) qs q (reads.present m s) is)) in
         same_outcome
-        (reads.holds_reads m s (matching matcher c) _ _ (each_asked _ qs (λ q is. ap (λ o. o.verdict) (each q is))))
-        (ap (map (fault_error (node_at keywords matcher nodes (subject_in instance) i path p) name)) (reads.faults_read m s (matching matcher c) _ _ (each_asked _ qs each)))
-        (spans_same keywords m s (matching matcher c) _ _ (reads.spans_read m s) each)
-    part_same name (node_reference e) h = ap (reference_outcome (node_at keywords matcher nodes (subject_in instance) i path p) name) (h e here ((zero, omega arith, refl), refl))
+        (reads.holds_reads m s (beside others (matching matcher c)) _ _ (each_asked _ qs (λ q is. ap (λ o. o.verdict) (each q is))))
+        (ap (map (fault_error (node_at keywords matcher nodes (subject_in instance) i path p) name)) (reads.faults_read m s (beside others (matching matcher c)) _ _ (each_asked _ qs each)))
+        (spans_same keywords m s (beside others (matching matcher c)) _ _ (reads.spans_read m s) each)
+    part_same others name (node_reference e) h = ap (reference_outcome (node_at keywords matcher nodes (subject_in instance) i path p) name) (h e here ((zero, omega arith, refl), refl))
 
-    parts_same : (xs : List (NodePart K)) → ((x : NodePart K) → Contains xs x → (e : NodeEdge) (b : Below) → FormAsks x.form e b → f e b ≡ g e b)
-        → node_parts keywords matcher nodes (subject_in instance) c i path p f xs ≡ node_parts keywords matcher nodes (subject_in instance) c i path p g xs
-    parts_same [] h = refl
-    parts_same (x ∷ xs) h = ap₂ both (part_same x.name x.form (h x (zero, omega arith, refl))) (parts_same xs (λ y is. h y (later x xs y is)))
+    -- What an entry that is not told spans.
+    span_same : (told : Bool) (o o' : Outcome) → o ≡ o' → ◌≡◌ {A = Step → Bool} (if told then spans_nothing else o.spans) (if told then spans_nothing else o'.spans)
+    span_same told o o' e = ap (λ (u : Outcome). if told then spans_nothing else u.spans) e
+
+    pub others_same : (xs : List (NodePart K)) → ((x : NodePart K) → Contains xs x → (e : NodeEdge) (b : Below) → FormAsks x.form e b → f e b ≡ g e b)
+        → node_others keywords matcher nodes (subject_in instance) c i path p f xs ≡ node_others keywords matcher nodes (subject_in instance) c i path p g xs
+    others_same [] h = refl
+    others_same (x ∷ xs) h = ap₂ either_spans (span_same (node_told keywords x.form) _ _ (part_same spans_nothing x.name x.form (h x (zero, omega arith, refl)))) (others_same xs (λ y is. h y (later x xs y is)))
+
+    parts_same : (others : Step → Bool) (xs : List (NodePart K)) → ((x : NodePart K) → Contains xs x → (e : NodeEdge) (b : Below) → FormAsks x.form e b → f e b ≡ g e b)
+        → node_parts keywords matcher nodes (subject_in instance) c i path p f others xs ≡ node_parts keywords matcher nodes (subject_in instance) c i path p g others xs
+    parts_same others [] h = refl
+    parts_same others (x ∷ xs) h = ap₂ both (part_same (told_of others (node_told keywords x.form)) x.name x.form (h x (zero, omega arith, refl))) (parts_same others xs (λ y is. h y (later x xs y is)))
 
     plan_same : (o : NodePlan K) → nodes.entries i ≡ o → ((e : NodeEdge) (b : Below) → NodeAsks instance nodes i p e b → f e b ≡ g e b)
-        → ◌≡◌ {A = Outcome} (elim o [ node_always ↦ accepted | node_never ↦ false_outcome keywords.texts (node_at keywords matcher nodes (subject_in instance) i path p) (subject_in instance p) | node_these xs ↦ kept (node_parts keywords matcher nodes (subject_in instance) c i path p f xs) ])
-        (elim o [ node_always ↦ accepted | node_never ↦ false_outcome keywords.texts (node_at keywords matcher nodes (subject_in instance) i path p) (subject_in instance p) | node_these xs ↦ kept (node_parts keywords matcher nodes (subject_in instance) c i path p g xs) ])
+        → ◌≡◌ {A = Outcome} (elim o [ node_always ↦ accepted | node_never ↦ false_outcome keywords.texts (node_at keywords matcher nodes (subject_in instance) i path p) (subject_in instance p) | node_these xs ↦ kept (node_parts keywords matcher nodes (subject_in instance) c i path p f (node_others keywords matcher nodes (subject_in instance) c i path p f xs) xs) ])
+        (elim o [ node_always ↦ accepted | node_never ↦ false_outcome keywords.texts (node_at keywords matcher nodes (subject_in instance) i path p) (subject_in instance p) | node_these xs ↦ kept (node_parts keywords matcher nodes (subject_in instance) c i path p g (node_others keywords matcher nodes (subject_in instance) c i path p g xs) xs) ])
     plan_same node_always is h = refl
     plan_same node_never is h = refl
-    plan_same (node_these xs) is h = ap kept (parts_same xs (λ x in_xs e b asks. h e b (record { edge = subst (λ o. Contains (node_edges o) e) (sym is) (in_flat_map (λ y. form_edges y.form) xs x e in_xs asks.0); present = asks.1 })))
+    plan_same (node_these xs) is h =
+        let each : (x : NodePart K) → Contains xs x → (e : NodeEdge) (b : Below) → FormAsks x.form e b → f e b ≡ g e b
+        = λ x in_xs e b asks. h e b (record { edge = subst (λ o. Contains (node_edges o) e) (sym is) (in_flat_map (λ y. form_edges y.form) xs x e in_xs asks.0); present = asks.1 }) in
+        ap kept (ap (λ o. node_parts keywords matcher nodes (subject_in instance) c i path p f o xs) (others_same xs each) ∙ parts_same (node_others keywords matcher nodes (subject_in instance) c i path p g xs) xs each)
 
     pub node_local : ((e : NodeEdge) (b : Below) → NodeAsks instance nodes i p e b → f e b ≡ g e b)
         → node_outcome keywords matcher nodes (subject_in instance) c i path p f ≡ node_outcome keywords matcher nodes (subject_in instance) c i path p g

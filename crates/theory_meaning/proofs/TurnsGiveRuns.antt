@@ -121,6 +121,8 @@ module _ {K R : Type 0} (keywords : Keywords K R) (m : K) (absorbed : List Text)
     faults_read = functions.faults_read;
     units_read = functions.units_read;
     spans_read = functions.spans_read;
+    spans_stand = functions.spans_stand;
+    told_spans = functions.told_spans;
     stands = functions.stands;
     passes = functions.passes;
   }

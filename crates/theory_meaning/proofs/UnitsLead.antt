@@ -6,19 +6,19 @@ use Rattle.std.specs.List.{list_any}
 use Rattle.std.proofs.lemmas.List.{append-nil}
 use Rattle.std.proofs.lemmas.List.Elements.{All-nil, All-cons, All-head, All-tail, All-map, All-append, All-weaker, All-contains, All-filter}
 use Rattle.serde_json.specs.Data.{Data}
-use Rattle.theory_definitions.specs.Instance.{Text, Place}
+use Rattle.theory_definitions.specs.Instance.{Text, Place, Step}
 use Rattle.theory_definitions.specs.Pointer.{joined, pointer_to}
-use Rattle.theory_definitions.specs.Reports.{Report, Unit_, unit, no_units, units_of, report_of}
+use Rattle.theory_definitions.specs.Reports.{Report, Unit_, unit, no_units, units_of, report_of, Outcome}
 use Rattle.theory_definitions.specs.Parts.{Parts}
-use Rattle.theory_definitions.specs.Matching.{Completion, matching}
+use Rattle.theory_definitions.specs.Matching.{Completion, matching, beside}
 use Rattle.theory_definitions.specs.Keywords.{Below, Gives, Named, Question, here}
 use Rattle.theory_definitions.specs.Laws.{IsPresent, steps_below}
 use Rattle.theory_definitions.specs.Making.{Request}
 use Rattle.theory_definitions.specs.Resolving.{Found}
 use Rattle.theory_definitions.specs.Plan.{Key, Edge, Part, Form, keyword, reference, Reference, Plan, always, never, these, plan, child, requested, reference_edge, referred, found, is_recursive_ref, ok_of}
-use Rattle.theory_definitions.specs.Meaning.{Where, place_below}
-use Rattle.theory_definitions.specs.Units.{Entry, PartUnits, entry_units, false_unit, in_order, is_type, keyword_unit, keyword_units, no_unit, plan_unit, reference_units, true_unit}
-use Rattle.theory_definitions.specs.Guarded.{NodeEdge, node_child, NodeForm, node_keyword, node_reference, NodePart, NodePlan, node_always, node_never, node_these, Nodes, progress_below, across, guarded_within, node_at, node_asked, node_part_units, node_entries_of, node_unit, yes_unit}
+use Rattle.theory_definitions.specs.Meaning.{Where, place_below, told_of}
+use Rattle.theory_definitions.specs.Units.{Entry, PartUnits, entry_units, false_unit, in_order, is_type, keyword_unit, keyword_units, no_unit, plan_unit, reference_units, true_unit, Valued}
+use Rattle.theory_definitions.specs.Guarded.{NodeEdge, node_child, NodeForm, node_keyword, node_reference, NodePart, NodePlan, node_always, node_never, node_these, Nodes, progress_below, across, guarded_within, node_at, node_asked, node_part_units, node_entries_of, node_unit, guarded_units, node_others, node_told, node_valued, yes_valued}
 use Rattle.theory_meaning.specs.Paths.{Walks, stands, goes, edges, names, part_edges, IsRest}
 use Rattle.theory_meaning.specs.Numbered.{Numbers, IsNumber, SameEdge, SameForm, SamePart, SameParts, SamePlan, StandsFor, AreNumbered, subject_in}
 use Rattle.theory_meaning.specs.ErrorsLead.{EachKeepsAbsorbing, MakesAbsorbing}
@@ -158,15 +158,15 @@ module _ {S K R : Type 0} (w : Parts S K R) (absorbs : K → List Text) (laws : 
       handed : (asked : Question → Unit_) (qs : List Question) → ((q : Question) → Contains qs q → AllPoint (asked q)) → (u : Unit_) → IsHandedOn asked qs u → AllPoint u
       handed asked qs each u on = subst AllPoint (sym on.2) (each on.0 on.1)
 
-      keyword_points : (m : K) (requests : List Request) (absorbed : List Text) → y.form ≡ keyword m requests absorbed → absorbed ≡ absorbs m → (es : List (Option NodeEdge))
+      keyword_points : (others : Step → Bool) (m : K) (requests : List Request) (absorbed : List Text) → y.form ≡ keyword m requests absorbed → absorbed ≡ absorbs m → (es : List (Option NodeEdge))
           → ((j : ℕ) → SameEdge w keys nodes (node_child es j) (child w k y.name requests j))
-          → EachOfPart Points (keyword_units w.keywords at_node y.name m (subject_in instance p) (matching w.matcher c) (node_asked w.keywords w.matcher nodes (subject_in instance) no_unit es go))
-      keyword_points m requests absorbed is absorbing es children =
+          → EachOfPart Points (keyword_units w.keywords at_node y.name m (subject_in instance p) (beside others (matching w.matcher c)) (node_asked w.keywords w.matcher nodes (subject_in instance) no_unit es go))
+      keyword_points others m requests absorbed is absorbing es children =
           let s = subject_in instance p in
           let asked : Question → Unit_ = node_asked w.keywords w.matcher nodes (subject_in instance) no_unit es go in
           let qs = w.keywords.may_ask m s in
-          let gives : Gives = w.keywords.units m s (matching w.matcher c) asked in
-          let on = hands m s (matching w.matcher c) asked in
+          let gives : Gives = w.keywords.units m s (beside others (matching w.matcher c)) asked in
+          let on = hands m s (beside others (matching w.matcher c)) asked in
           let present : (q : Question) → Contains qs q → IsPresent s (steps_below q.below) = λ q may. All-contains (λ (q : Question). IsPresent s (steps_below q.below)) qs q ((laws m).present s) may in
           let each : (q : Question) → Contains qs q → AllPoint (asked q) = λ q may. edge_leads (node_child es q.child) (child w k y.name requests q.child) q.below (children q.child)
           (stands_at instance p q.below there (present q may))
@@ -188,68 +188,70 @@ module _ {S K R : Type 0} (w : Parts S K R) (absorbs : K → List Text) (laws : 
         All-nil (λ (a : Text × Unit_). AllPoint a.1),
       )
 
-      form_points : (x : NodeForm K) (form : Form K) → y.form ≡ form → SameForm w keys nodes k y.name x form
-          → EachOfPart Points (node_part_units w.keywords w.matcher nodes (subject_in instance) c i path p go y.name x)
-      form_points (node_keyword m es) (keyword m' requests absorbed) is s =
-          subst (λ (word : K). EachOfPart Points (keyword_units w.keywords at_node y.name word (subject_in instance p) (matching w.matcher c) (node_asked w.keywords w.matcher nodes (subject_in instance) no_unit es go))) (sym s.0)
-          (keyword_points m' requests absorbed is (absorbs_its w absorbs makers k ys is_plan y in_ys m' requests absorbed is) es s.1)
-      form_points (node_reference e) (reference kind text) is s = by_edge (reference_edge w k y.name kind text) refl s
+      form_points : (others : Step → Bool) (x : NodeForm K) (form : Form K) → y.form ≡ form → SameForm w keys nodes k y.name x form
+          → EachOfPart Points (node_part_units w.keywords w.matcher nodes (subject_in instance) c i path p go others y.name x)
+      form_points others (node_keyword m es) (keyword m' requests absorbed) is s =
+          subst (λ (word : K). EachOfPart Points (keyword_units w.keywords at_node y.name word (subject_in instance p) (beside others (matching w.matcher c)) (node_asked w.keywords w.matcher nodes (subject_in instance) no_unit es go))) (sym s.0)
+          (keyword_points others m' requests absorbed is (absorbs_its w absorbs makers k ys is_plan y in_ys m' requests absorbed is) es s.1)
+      form_points others (node_reference e) (reference kind text) is s = by_edge (reference_edge w k y.name kind text) refl s
         where
           by_edge : (o : Option (Edge S)) → reference_edge w k y.name kind text ≡ o → SameEdge w keys nodes (Some e) o → EachOfPart Points (reference_units at_node y.name (go e here))
           by_edge None found t = absurd t
           by_edge (Some edge) found t =
               let in_edges : Contains (part_edges w k y.name y.form) edge = subst (λ (form : Form K). Contains (part_edges w k y.name form) edge) (sym is) (in_option_list (reference_edge w k y.name kind text) edge found) in
               reference_points e (go e here) (t.1 ∙ path_named w k y.name kind text edge found) (answers edge e here t.0 t.1 (goes edge way (is_edge edge in_edges)) there)
-      form_points (node_keyword m es) (reference kind text) is s = absurd s
-      form_points (node_reference e) (keyword m' requests absorbed) is s = absurd s
+      form_points others (node_keyword m es) (reference kind text) is s = absurd s
+      form_points others (node_reference e) (keyword m' requests absorbed) is s = absurd s
 
-      part_points : (x : NodePart K) → SamePart w keys nodes k x y → EachOfPart Points (node_part_units w.keywords w.matcher nodes (subject_in instance) c i path p go x.name x.form)
-      part_points x s = subst (λ (name : Text). EachOfPart Points (node_part_units w.keywords w.matcher nodes (subject_in instance) c i path p go name x.form)) (sym s.name) (form_points x.form y.form refl s.form)
+      part_points : (others : Step → Bool) (x : NodePart K) → SamePart w keys nodes k x y → EachOfPart Points (node_part_units w.keywords w.matcher nodes (subject_in instance) c i path p go others x.name x.form)
+      part_points others x s = subst (λ (name : Text). EachOfPart Points (node_part_units w.keywords w.matcher nodes (subject_in instance) c i path p go others name x.form)) (sym s.name) (form_points others x.form y.form refl s.form)
 
     -- All entries of a target.
-    entries_point : (all : List (Part K)) → plan w k ≡ these all → (xs : List (NodePart K)) (ys : List (Part K)) → SameParts w keys nodes k xs ys → ((y : Part K) → Contains ys y → Contains all y)
-        → All (λ (x : Entry). EachOfPart Points x.units) (node_entries_of w.keywords w.matcher nodes (subject_in instance) c i path p go xs)
-    entries_point all is [] ys s h = All-nil (λ (x : Entry). EachOfPart Points x.units)
-    entries_point all is (x ∷ xs) [] s h = absurd s
-    entries_point all is (x ∷ xs) (y ∷ ys) s h = All-cons (λ (x : Entry). EachOfPart Points x.units) _ _
-        (part_points all is y (h y (zero, omega arith, refl)) x s.0) (entries_point all is xs ys s.1 (λ z in_ys. h z (later y ys z in_ys)))
+    entries_point : (others : Step → Bool) (all : List (Part K)) → plan w k ≡ these all → (xs : List (NodePart K)) (ys : List (Part K)) → SameParts w keys nodes k xs ys → ((y : Part K) → Contains ys y → Contains all y)
+        → All (λ (x : Entry). EachOfPart Points x.units) (node_entries_of w.keywords w.matcher nodes (subject_in instance) c i path p go others xs)
+    entries_point others all is [] ys s h = All-nil (λ (x : Entry). EachOfPart Points x.units)
+    entries_point others all is (x ∷ xs) [] s h = absurd s
+    entries_point others all is (x ∷ xs) (y ∷ ys) s h = All-cons (λ (x : Entry). EachOfPart Points x.units) _ _
+        (part_points all is y (h y (zero, omega arith, refl)) (told_of others (node_told w.keywords x.form)) x s.0) (entries_point others all is xs ys s.1 (λ z in_ys. h z (later y ys z in_ys)))
 
-    plan_points : (n : NodePlan K) (o : Plan K) → plan w k ≡ o → SamePlan w keys nodes k n o
-        → Lead path (elim n [ node_always ↦ true_unit at_node | node_never ↦ false_unit w.keywords.texts at_node (subject_in instance p) | node_these xs ↦ plan_unit at_node (nodes.annotations i) (node_entries_of w.keywords w.matcher nodes (subject_in instance) c i path p go xs) ])
-    plan_points node_always o is s = (refl, alone _ refl)
-    plan_points node_never never is s = false_points is
-    plan_points node_never always is s = absurd s
-    plan_points node_never (these ys) is s = absurd s
-    plan_points (node_these xs) (these ys) is s =
-        let entries = node_entries_of w.keywords w.matcher nodes (subject_in instance) c i path p go xs in
-        (refl, (quiet (UnitPointsAt w root instance) _ refl, each_in Points (entry_units entries) (entries_each Points entries (entries_point ys is xs ys s (λ y in_ys. in_ys)))))
-    plan_points (node_these xs) always is s = absurd s
-    plan_points (node_these xs) never is s = absurd s
+    plan_points : (says : NodeEdge → Below → Outcome) (n : NodePlan K) (o : Plan K) → plan w k ≡ o → SamePlan w keys nodes k n o
+        → Lead path (elim n [ node_always ↦ true_unit at_node | node_never ↦ false_unit w.keywords.texts at_node (subject_in instance p) | node_these xs ↦ plan_unit at_node (nodes.annotations i) (node_entries_of w.keywords w.matcher nodes (subject_in instance) c i path p go (node_others w.keywords w.matcher nodes (subject_in instance) c i path p says xs) xs) ])
+    plan_points says node_always o is s = (refl, alone _ refl)
+    plan_points says node_never never is s = false_points is
+    plan_points says node_never always is s = absurd s
+    plan_points says node_never (these ys) is s = absurd s
+    plan_points says (node_these xs) (these ys) is s =
+        let others = node_others w.keywords w.matcher nodes (subject_in instance) c i path p says xs in
+        let entries = node_entries_of w.keywords w.matcher nodes (subject_in instance) c i path p go others xs in
+        (refl, (quiet (UnitPointsAt w root instance) _ refl, each_in Points (entry_units entries) (entries_each Points entries (entries_point others ys is xs ys s (λ y in_ys. in_ys)))))
+    plan_points says (node_these xs) always is s = absurd s
+    plan_points says (node_these xs) never is s = absurd s
 
-    unit_leads : Lead path (node_unit w.keywords w.matcher nodes (subject_in instance) c i path p go)
-    unit_leads = plan_points (nodes.entries i) (plan w k) refl same.entries
+    unit_leads : (says : NodeEdge → Below → Outcome) → Lead path (node_unit w.keywords w.matcher nodes (subject_in instance) c i path p says go)
+    unit_leads says = plan_points says (nodes.entries i) (plan w k) refl same.entries
 
   -- ---- at any depth
 
-  by_guard : (guarded busy : Bool) (path : Text) (x y z : Unit_) → Lead path x → Lead path y → Lead path z
-      → Lead path (elim guarded [ false ↦ x | true ↦ elim busy [ true ↦ y | false ↦ z ] ])
+  by_guard : (guarded busy : Bool) (path : Text) (x y z : Valued) → Lead path x.units → Lead path y.units → Lead path z.units
+      → Lead path (let v : Valued = elim guarded [ false ↦ x | true ↦ elim busy [ true ↦ y | false ↦ z ] ] in v.units)
   by_guard false busy path x y z f g h = f
   by_guard true true path x y z f g h = g
   by_guard true false path x y z f g h = h
 
   guarded_leads : AreNumbered w keys nodes → (c : Completion) (n i : ℕ) (k : Key S) → IsNumber keys i k → (path : Text) → Walks w root path k → (p : Place) → Stands instance p → (busy : List ℕ)
-      → Lead path (guarded_within (yes_unit nodes) (node_unit w.keywords w.matcher nodes (subject_in instance) c) n i path p busy)
+      → Lead path (guarded_units w.keywords w.matcher nodes (subject_in instance) c n i path p busy)
   guarded_leads numbered c zero i k number path way p there busy = (refl, alone _ refl)
   guarded_leads numbered c (suc n) i k number path way p there busy =
-      let say : ℕ → Text → Place → List ℕ → Unit_ = guarded_within (yes_unit nodes) (node_unit w.keywords w.matcher nodes (subject_in instance) c) n in
-      unit_leads c i k (numbered.stands i k number) path way p there
-      (across (yes_unit nodes) (node_unit w.keywords w.matcher nodes (subject_in instance) c) say path p busy)
+      let say : ℕ → Text → Place → List ℕ → Valued = guarded_within (yes_valued nodes) (node_valued w.keywords w.matcher nodes (subject_in instance) c) n in
+      let below : NodeEdge → Below → Valued = across (yes_valued nodes) (node_valued w.keywords w.matcher nodes (subject_in instance) c) say path p busy in
+      unit_leads c i k (numbered.stands i k number) path way p there (λ e b. (below e b).units)
       (λ edge e b number' same_path way' at_b.
       let way'' : Walks w root (path ++ e.path) edge.key = subst (λ (t : Text). Walks w root (path ++ t) edge.key) (sym same_path) way' in
-      let again : (busy' : List ℕ) → Lead (path ++ e.path) (say e.node (path ++ e.path) (place_below p b) busy') = guarded_leads numbered c n e.node edge.key number' (path ++ e.path) way'' (place_below p b) at_b in
+      let again : (busy' : List ℕ) → Lead (path ++ e.path) (say e.node (path ++ e.path) (place_below p b) busy').units = guarded_leads numbered c n e.node edge.key number' (path ++ e.path) way'' (place_below p b) at_b in
       by_guard e.guarded (list_any (λ j. j == e.node) (progress_below busy b)) (path ++ e.path)
-      (say e.node (path ++ e.path) (place_below p b) (progress_below busy b)) (yes_unit nodes e.node (path ++ e.path) (place_below p b)) (say e.node (path ++ e.path) (place_below p b) (e.node ∷ progress_below busy b))
+      (say e.node (path ++ e.path) (place_below p b) (progress_below busy b)) (yes_valued nodes e.node (path ++ e.path) (place_below p b)) (say e.node (path ++ e.path) (place_below p b) (e.node ∷ progress_below busy b))
       (again (progress_below busy b)) (refl, alone _ refl) (again (e.node ∷ progress_below busy b)))
+      (λ e b. (below e b).outcome)
 
 pub node_units_lead : {S K R : Type 0} (w : Parts S K R) (absorbs : K → List Text) (keys : Numbers S) (nodes : Nodes K) → NodeUnitsLead w absorbs keys nodes
 node_units_lead w absorbs keys nodes laws makers hands numbered instance c n i root number =

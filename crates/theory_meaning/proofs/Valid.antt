@@ -9,10 +9,10 @@ use Rattle.theory_definitions.specs.Instance.{Text, Place, Step}
 use Rattle.theory_definitions.specs.Reports.{Error, Unit_, report_of, Outcome, accepted, spans_nothing}
 use Rattle.theory_definitions.specs.Parts.{Parts}
 use Rattle.theory_definitions.specs.Making.{Request}
-use Rattle.theory_definitions.specs.Matching.{Completion, matching}
+use Rattle.theory_definitions.specs.Matching.{Completion, matching, beside}
 use Rattle.theory_definitions.specs.Keywords.{Gives, Named, Question, all_valid}
 use Rattle.theory_definitions.specs.Plan.{Key, Edge, Part, Form, keyword, reference, Plan, always, never, these, plan, child, reference_edge}
-use Rattle.theory_definitions.specs.Meaning.{Where, at, both, subject, asked, part_outcome, parts_outcome, outcome_of, false_outcome, kept}
+use Rattle.theory_definitions.specs.Meaning.{Where, at, both, subject, asked, part_outcome, parts_outcome, outcome_of, false_outcome, kept, form_told, others_span, told_of}
 use Rattle.theory_definitions.specs.Units.{Entry, PartUnits, given_units, part_units, entries_of, entry_units, unit_of, no_unit, in_order, is_type, keyword_unit, annotations_of, true_unit, false_unit, plan_unit}
 use Rattle.theory_definitions.specs.Laws.{Agrees, KeepsLaws}
 use Rattle.theory_meaning.proofs.Plans.{agrees_both, map_none}
@@ -121,42 +121,43 @@ module _ {S K R : Type 0} (w : Parts S K R) (instance : Data) (absorbs : K → L
   asked_valid : (name : Text) (requests : List Request) (q : Question) → (report_of (asked w instance no_unit k name requests p u q)).valid ≡ (asked w instance accepted k name requests p g q).verdict
   asked_valid name requests q = option_valid (child w k name requests q.child) _
 
-  pub part_agrees : (name : Text) (form : Form K) → Agrees (part_outcome w instance c k path p g name form)
-  part_agrees name (keyword m requests absorbed) = mapped_agrees _ _ _ spans_nothing ((laws m).agree (subject w instance p) (matching w.matcher c) (asked w instance accepted k name requests p g) (asked_agrees name requests))
-  part_agrees name (reference kind text) = mapped_agrees _ _ _ spans_nothing (option_agrees (reference_edge w k name kind text) p)
+  pub part_agrees : (others : Step → Bool) (name : Text) (form : Form K) → Agrees (part_outcome w instance c k path p g others name form)
+  part_agrees others name (keyword m requests absorbed) = mapped_agrees _ _ _ spans_nothing ((laws m).agree (subject w instance p) (beside others (matching w.matcher c)) (asked w instance accepted k name requests p g) (asked_agrees name requests))
+  part_agrees others name (reference kind text) = mapped_agrees _ _ _ spans_nothing (option_agrees (reference_edge w k name kind text) p)
 
-  parts_agree : (xs : List (Part K)) → Agrees (parts_outcome w instance c k path p g xs)
-  parts_agree [] = (λ e. refl, λ e. refl)
-  parts_agree (x ∷ xs) = agrees_both (part_outcome w instance c k path p g x.name x.form) (parts_outcome w instance c k path p g xs) (part_agrees x.name x.form) (parts_agree xs)
+  parts_agree : (others : Step → Bool) (xs : List (Part K)) → Agrees (parts_outcome w instance c k path p g others xs)
+  parts_agree others [] = (λ e. refl, λ e. refl)
+  parts_agree others (x ∷ xs) = let told = told_of others (form_told w.keywords x.form) in
+      agrees_both (part_outcome w instance c k path p g told x.name x.form) (parts_outcome w instance c k path p g others xs) (part_agrees told x.name x.form) (parts_agree others xs)
 
-  pub form_valid : (name : Text) (form : Form K) → EntryValid (part_units w instance c k path p u name form) (part_outcome w instance c k path p g name form)
-  form_valid name (keyword m requests absorbed) =
+  pub form_valid : (others : Step → Bool) (name : Text) (form : Form K) → EntryValid (part_units w instance c k path p u others name form) (part_outcome w instance c k path p g others name form)
+  form_valid others name (keyword m requests absorbed) =
       let answers : Question → Unit_ = asked w instance no_unit k name requests p u in
       record {
-        all = given_valid (at w instance k path p) name (w.keywords.units m (subject w instance p) (matching w.matcher c) answers)
-            ∙ ((laws m).units_valid (subject w instance p) (matching w.matcher c) answers
-            ∙ ap (w.keywords.holds m (subject w instance p) (matching w.matcher c)) (λ i q. asked_valid name requests q i));
+        all = given_valid (at w instance k path p) name (w.keywords.units m (subject w instance p) (beside others (matching w.matcher c)) answers)
+            ∙ ((laws m).units_valid (subject w instance p) (beside others (matching w.matcher c)) answers
+            ∙ ap (w.keywords.holds m (subject w instance p) (beside others (matching w.matcher c))) (λ i q. asked_valid name requests q i));
       }
-  form_valid name (reference kind text) = record { all = and_true _ ∙ option_valid (reference_edge w k name kind text) p }
+  form_valid others name (reference kind text) = record { all = and_true _ ∙ option_valid (reference_edge w k name kind text) p }
 
-  parts_valid : (xs : List (Part K)) → EntriesValid (entries_of w instance c k path p u xs) (parts_outcome w instance c k path p g xs)
-  parts_valid [] = none_left
-  parts_valid (x ∷ xs) = one_more (form_valid x.name x.form) (parts_valid xs)
+  parts_valid : (others : Step → Bool) (xs : List (Part K)) → EntriesValid (entries_of w instance c k path p u others xs) (parts_outcome w instance c k path p g others xs)
+  parts_valid others [] = none_left
+  parts_valid others (x ∷ xs) = one_more (form_valid (told_of others (form_told w.keywords x.form)) x.name x.form) (parts_valid others xs)
 
   pub node_agrees : Agrees (outcome_of w instance c k path p g)
   node_agrees = go (plan w k)
     where
-      go : (o : Plan K) → Agrees (elim o [ always ↦ accepted | never ↦ false_outcome w.keywords.texts (at w instance k path p) (subject w instance p) | these xs ↦ kept (parts_outcome w instance c k path p g xs) ])
+      go : (o : Plan K) → Agrees (elim o [ always ↦ accepted | never ↦ false_outcome w.keywords.texts (at w instance k path p) (subject w instance p) | these xs ↦ kept (parts_outcome w instance c k path p g (others_span w instance c k path p g xs) xs) ])
       go always = (λ e. refl, λ e. refl)
       go never = (λ e. absurd (cc e), λ e. absurd (cc e))
-      go (these xs) = parts_agree xs
+      go (these xs) = parts_agree (others_span w instance c k path p g xs) xs
 
-  pub node_valid : (report_of (unit_of w instance c k path p u)).valid ≡ (outcome_of w instance c k path p g).verdict
+  pub node_valid : (report_of (unit_of w instance c k path p g u)).valid ≡ (outcome_of w instance c k path p g).verdict
   node_valid = go (plan w k)
     where
       go : (o : Plan K) → (report_of (elim o
-          [ always ↦ true_unit (at w instance k path p) | never ↦ false_unit w.keywords.texts (at w instance k path p) (subject w instance p) | these xs ↦ plan_unit (at w instance k path p) (annotations_of w k) (entries_of w instance c k path p u xs) ])).valid
-          ≡ (let x : Outcome = elim o [ always ↦ accepted | never ↦ false_outcome w.keywords.texts (at w instance k path p) (subject w instance p) | these xs ↦ kept (parts_outcome w instance c k path p g xs) ] in x.verdict)
+          [ always ↦ true_unit (at w instance k path p) | never ↦ false_unit w.keywords.texts (at w instance k path p) (subject w instance p) | these xs ↦ plan_unit (at w instance k path p) (annotations_of w k) (entries_of w instance c k path p u (others_span w instance c k path p g xs) xs) ])).valid
+          ≡ (let x : Outcome = elim o [ always ↦ accepted | never ↦ false_outcome w.keywords.texts (at w instance k path p) (subject w instance p) | these xs ↦ kept (parts_outcome w instance c k path p g (others_span w instance c k path p g xs) xs) ] in x.verdict)
       go always = refl
       go never = refl
-      go (these xs) = entries_valid (parts_valid xs)
+      go (these xs) = entries_valid (parts_valid (others_span w instance c k path p g xs) xs)

@@ -41,6 +41,8 @@ module _ {S K R : Type 0} (w : Parts S K R) (instance : Data) (c : Completion) w
   abbrev pub AcceptsGreatest : Key S → Place → Type 0
   AcceptsGreatest k p = (accepts : Pairs) × IsSolution accepts × (accepts k p ≡ true)
 
--- Another yes among the answers never changes a yes of the keyword to a no.
-abbrev pub IsMonotone : {K R : Type 0} → Keywords K R → K → Type 0
-IsMonotone {K} keywords m = (s : Subject) (matches : Matching) (a b : Question → Bool) → ((q : Question) → a q ≡ true → b q ≡ true) → keywords.holds m s matches a ≡ true → keywords.holds m s matches b ≡ true
+-- The keyword is not told what others span, and another yes among the answers never changes a yes of
+-- the keyword to a no.
+pub record IsMonotone {K R : Type 0} (keywords : Keywords K R) (m : K) : Type 0 where
+  pub untold : keywords.is_told m ≡ false
+  pub grows : (s : Subject) (matches : Matching) (a b : Question → Bool) → ((q : Question) → a q ≡ true → b q ≡ true) → keywords.holds m s matches a ≡ true → keywords.holds m s matches b ≡ true

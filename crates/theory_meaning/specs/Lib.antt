@@ -24,3 +24,4 @@ pub mod RowsFused
 pub mod UnitsOrdered
 pub mod Search
 pub mod Searched
+pub mod Untold

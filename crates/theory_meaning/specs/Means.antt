@@ -8,7 +8,7 @@ use Rattle.theory_definitions.specs.Plan.{Key}
 use Rattle.theory_definitions.specs.Reports.{Unit_}
 use Rattle.theory_definitions.specs.Cover.{Sense}
 use Rattle.theory_definitions.specs.Laws.{EachKeeps}
-use Rattle.theory_definitions.specs.Guarded.{Nodes, guarded_sense, guarded_within, node_unit, yes_unit}
+use Rattle.theory_definitions.specs.Guarded.{Nodes, guarded_sense, guarded_units}
 use Rattle.theory_meaning.specs.Headline.{Guardedly, Plainly, PlainlyWithUnits}
 use Rattle.theory_meaning.specs.Numbered.{Numbers, IsNumber, AreNumbered, Ranked, ValuesInside, MakersAskBelow, subject_in}
 
@@ -27,7 +27,7 @@ module _ {K R : Type 0} (keywords : Keywords K R) (matcher : Matcher) (nodes : N
 
   -- From some depth on, the nodes have these units under each completion.
   abbrev pub HaveUnits : (Completion → Unit_) → Type 0
-  HaveUnits units = (deep : ℕ) × ((n : ℕ) → deep ≤ n → (c : Completion) → guarded_within (yes_unit nodes) (node_unit keywords matcher nodes (subject_in instance) c) n root [] [] [] ≡ units c)
+  HaveUnits units = (deep : ℕ) × ((n : ℕ) → deep ≤ n → (c : Completion) → guarded_units keywords matcher nodes (subject_in instance) c n root [] [] [] ≡ units c)
 
 -- If no chain of questions returns, numbers in place of keys have the plain meaning of the root's
 -- key.

@@ -21,8 +21,14 @@ SameIn for_first a b = first_error a.errors ≡ first_error b.errors
 SameIn for_all a b = a.errors ≡ b.errors
 SameIn for_units a b = a.verdict ≡ b.verdict
 
+-- Two outcomes differ at most in their errors.
+pub record SaysAlike (a b : Outcome) : Type 0 where
+  pub verdict : a.verdict ≡ b.verdict
+  pub spans : a.spans ≡ b.spans
+
 -- A run under assumptions speaks for an outcome and units: if it meets, in a mode, only matches
--- that are assumed, it has the same result in that mode.
+-- that are assumed, it has the same result in that mode; and if it meets only such matches in its
+-- run for its span, it has the same verdict and spans the same.
 pub record Speaks (as' : Assumptions) (r : Run) (o : Outcome) (u : Unit_) : Type 0 where
   pub run_agrees : Agrees (r.outcome tt)
   pub agrees : Agrees o
@@ -30,6 +36,7 @@ pub record Speaks (as' : Assumptions) (r : Run) (o : Outcome) (u : Unit_) : Type
   pub valid : (report_of u).valid ≡ o.verdict
   pub in_mode : (mode : Mode) → AllAssumed as' (r.met mode) → SameIn mode (r.outcome tt) o
   pub units : AllAssumed as' (r.met for_units) → r.units tt ≡ u
+  pub spanning : AllAssumed as' r.spanning → SaysAlike (r.outcome tt) o
 
 -- A sense that behaves like a plain run: if a call's run meets only matches that are assumed, it
 -- has, in its mode, the result of each completion that extends the assumptions.

@@ -18,7 +18,7 @@ use Rattle.theory_definitions.specs.Cover.{evaluate, is_valid, plain}
 use Rattle.theory_definitions.specs.Laws.{EachKeeps}
 use Rattle.theory_meaning.specs.Reach.{IsReach, deep_enough}
 use Rattle.theory_meaning.specs.Paths.{edges}
-use Rattle.theory_definitions.specs.Guarded.{NodeEdge, NodeForm, NodePart, NodePlan, Nodes, guarded_node, guarded_sense, guarded_within, node_always, node_child, node_edges, node_keyword, node_never, node_outcome, node_reference, node_these, node_unit, yes_outcome, yes_run, yes_unit}
+use Rattle.theory_definitions.specs.Guarded.{NodeEdge, NodeForm, NodePart, NodePlan, Nodes, guarded_node, guarded_sense, guarded_units, guarded_within, node_always, node_child, node_edges, node_keyword, node_never, node_outcome, node_reference, node_these, yes_outcome, yes_run}
 use Rattle.theory_meaning.specs.Headline.{ErrorsSay, EvaluateAnswer, FirstSays, Guardedly, IsValidAnswer, IterErrorsAnswer, ValidateAnswer, VerdictSays}
 
 -- ---- numbers that stand for keys
@@ -143,7 +143,7 @@ module _ {K R : Type 0} (keywords : Keywords K R) where
   abbrev pub RunsSayOutcomes : Type 0
   RunsSayOutcomes = (matcher : Matcher) (nodes : Nodes K) (subject_of : Place → Subject) (as' : Assumptions) (n i : ℕ) (path : Text) (p : Place) (busy : List ℕ)
       → ((guarded_within (yes_run nodes) (guarded_node keywords matcher nodes subject_of as') n i path p busy).outcome tt ≡ guarded_within yes_outcome (node_outcome keywords matcher nodes subject_of (completion_of as')) n i path p busy)
-      × ((guarded_within (yes_run nodes) (guarded_node keywords matcher nodes subject_of as') n i path p busy).units tt ≡ guarded_within (yes_unit nodes) (node_unit keywords matcher nodes subject_of (completion_of as')) n i path p busy)
+      × ((guarded_within (yes_run nodes) (guarded_node keywords matcher nodes subject_of as') n i path p busy).units tt ≡ guarded_units keywords matcher nodes subject_of (completion_of as') n i path p busy)
 
   -- Every depth beyond the measure yields the same run, whether questions return or not: the same
   -- outcome, the same units, and the same matches in each mode.

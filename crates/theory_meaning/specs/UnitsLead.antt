@@ -9,7 +9,7 @@ use Rattle.theory_definitions.specs.Matching.{Completion, Matching}
 use Rattle.theory_definitions.specs.Keywords.{Keywords, Named, Question}
 use Rattle.theory_definitions.specs.Parts.{Parts}
 use Rattle.theory_definitions.specs.Plan.{Key, absolute_of}
-use Rattle.theory_definitions.specs.Guarded.{Nodes, guarded_within, node_unit, yes_unit}
+use Rattle.theory_definitions.specs.Guarded.{Nodes, guarded_units}
 use Rattle.theory_meaning.specs.Paths.{Leads}
 use Rattle.theory_meaning.specs.ErrorsLead.{EachKeepsAbsorbing, MakesAbsorbing}
 use Rattle.theory_meaning.specs.Numbered.{AreNumbered, IsNumber, Numbers, subject_in}
@@ -62,4 +62,4 @@ module _ {S K R : Type 0} (w : Parts S K R) (root : Key S) (instance : Data) whe
 abbrev pub NodeUnitsLead : {S K R : Type 0} → Parts S K R → (K → List Text) → Numbers S → Nodes K → Type 0
 NodeUnitsLead {S} w absorbs keys nodes = EachKeepsAbsorbing w.keywords absorbs → MakesAbsorbing absorbs w.table → EachHandsUnitsOn w.keywords absorbs → AreNumbered w keys nodes
     → (instance : Data) (c : Completion) (n i : ℕ) (root : Key S) → IsNumber keys i root
-    → UnitsPoint w root instance (guarded_within (yes_unit nodes) (node_unit w.keywords w.matcher nodes (subject_in instance) c) n i [] [] [])
+    → UnitsPoint w root instance (guarded_units w.keywords w.matcher nodes (subject_in instance) c n i [] [] [])

@@ -7,6 +7,7 @@ use Rattle.theory_definitions.specs.Matching.{Assumptions, Match, Matcher, Pair,
 use Rattle.theory_definitions.specs.Keywords.{Keywords, Marked, MatchPoint, Mode, Question, Reply, Turn, ask, done, ecma, for_verdict, mark, match_text, no_reply, truth, unmark, is_spanned}
 use Rattle.theory_definitions.specs.Meaning.{Where}
 use Rattle.theory_definitions.specs.Runs.{Met, Run, keyword_met, reply_in, site_at, turns, with_mark, without_last}
+use Rattle.theory_definitions.specs.Reports.{spans_nothing}
 use Rattle.theory_definitions.specs.Unfinished.{Remembered}
 use Rattle.schema_traits.specs.AtOnce.{EndsAtOnce}
 use Rattle.schema_run_context.specs.Matches.{MeetsEach, after_match}
@@ -14,7 +15,7 @@ use Rattle.schema_run_context.proofs.Matches.{meets_append}
 
 module _ {K R : Type 0} (keywords : Keywords K R) (matcher : Matcher) (as' : Assumptions) (x : Where) (s : Subject) (run_of : Question → Run) (same : Marked → Marked → Bool) (name : Text) (m : K) (remaining : R → ℕ) (old : Remembered) (total : List Met) where
   abbrev MetIn : ℕ → List Marked → R → Reply → List Met
-  MetIn n marks r reply = turns keywords matcher as' x s run_of same name m n marks r reply
+  MetIn n marks r reply = turns keywords matcher as' x s run_of spans_nothing same name m n marks r reply
 
   -- The matches that were met, together with those still to meet, are all matches.
   abbrev pub MeetsSoFar : Remembered → List Marked → R → Reply → Type 0
@@ -94,11 +95,11 @@ module _ {K R : Type 0} (keywords : Keywords K R) (matcher : Matcher) (as' : Ass
 
 module _ {K R : Type 0} (keywords : Keywords K R) (matcher : Matcher) (as' : Assumptions) (x : Where) (s : Subject) (run_of : Question → Run) (same : Marked → Marked → Bool) (name : Text) (m : K) (remaining : R → ℕ) (old : Remembered) where
   pub meets_begun : (mode : Mode) (marks : List Marked) (r : R) → marks ≡ [] → keywords.begin m s mode ≡ r → remaining (keywords.begin m s mode) < keywords.most_turns m s
-      → MeetsSoFar keywords matcher as' x s run_of same name m remaining old (keyword_met keywords matcher as' x s run_of same name m mode) old marks r no_reply
-  meets_begun mode marks r none e l = (keywords.most_turns m s, subst (λ u. remaining u < keywords.most_turns m s) e l, [], refl, ap (λ l. turns keywords matcher as' x s run_of same name m (keywords.most_turns m s) l r no_reply) none ∙ ap (λ u. turns keywords matcher as' x s run_of same name m (keywords.most_turns m s) [] u no_reply) (sym e))
+      → MeetsSoFar keywords matcher as' x s run_of same name m remaining old (keyword_met keywords matcher as' x s run_of spans_nothing same name m mode) old marks r no_reply
+  meets_begun mode marks r none e l = (keywords.most_turns m s, subst (λ u. remaining u < keywords.most_turns m s) e l, [], refl, ap (λ l. turns keywords matcher as' x s run_of spans_nothing same name m (keywords.most_turns m s) l r no_reply) none ∙ ap (λ u. turns keywords matcher as' x s run_of spans_nothing same name m (keywords.most_turns m s) [] u no_reply) (sym e))
 
   -- A run that is done at its first turn meets no match.
-  pub meets_at_once : (valid : Bool) → EndsAtOnce keywords m s valid → remaining (keywords.begin m s for_verdict) < keywords.most_turns m s → MeetsEach matcher old (keyword_met keywords matcher as' x s run_of same name m for_verdict) old
+  pub meets_at_once : (valid : Bool) → EndsAtOnce keywords m s valid → remaining (keywords.begin m s for_verdict) < keywords.most_turns m s → MeetsEach matcher old (keyword_met keywords matcher as' x s run_of spans_nothing same name m for_verdict) old
   meets_at_once valid ends l =
       let r = keywords.begin m s for_verdict in
-      meets_all keywords matcher as' x s run_of same name m remaining old (keyword_met keywords matcher as' x s run_of same name m for_verdict) old [] r no_reply ends.asks_nothing (meets_begun for_verdict [] r refl refl l)
+      meets_all keywords matcher as' x s run_of same name m remaining old (keyword_met keywords matcher as' x s run_of spans_nothing same name m for_verdict) old [] r no_reply ends.asks_nothing (meets_begun for_verdict [] r refl refl l)

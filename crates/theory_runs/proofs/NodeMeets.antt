@@ -5,14 +5,16 @@ use Rattle.std.specs.Prelude.{Option, Some, None, is_some, ◌↔◌, option_and
 use Rattle.std.specs.List.{list_any}
 use Rattle.serde_json.specs.Data.{Data}
 use Rattle.theory_definitions.specs.Instance.{Place, Step, Subject, Text, a_value, after_step, subject_at}
-use Rattle.theory_definitions.specs.Reports.{Error, Outcome, accepted}
+use Rattle.theory_definitions.specs.Reports.{Error, Outcome, accepted, spans_nothing}
 use Rattle.theory_definitions.specs.Matching.{Matcher, completion_of}
 use Rattle.theory_definitions.specs.Keywords.{Below, Keywords, Mode, Question, down, for_all, for_first, for_units, for_verdict, here}
 use Rattle.theory_definitions.specs.Meaning.{both}
-use Rattle.theory_definitions.specs.Runs.{Looked, Met, Run, first_error, no_run, plan_met, reply_in}
+use Rattle.theory_definitions.specs.Runs.{Looked, Met, Run, first_error, no_run, node_met, plan_met, reply_in}
 use Rattle.theory_definitions.specs.Laws.{Agrees}
-use Rattle.theory_definitions.specs.Guarded.{Children, NodeEdge, NodeForm, NodePart, NodePlan, Nodes, node_always, node_child, node_never, node_part, node_reference, node_these, yes_run}
+use Rattle.theory_definitions.specs.Guarded.{Children, NodeEdge, NodeForm, NodePart, NodePlan, Nodes, node_always, node_child, node_looked_at, node_never, node_part, node_reference, node_these, yes_run}
 use Rattle.theory_meaning.specs.Numbered.{left, subject_in}
+use Rattle.theory_meaning.specs.Untold.{NeverTold}
+use Rattle.theory_meaning.proofs.Untold.{met_alone_are, never_none}
 use Rattle.theory_definitions.specs.Unfinished.{Remembered}
 use Rattle.theory_meaning.proofs.Falls.{from_below}
 use Rattle.schema_run_context.specs.Matches.{MeetsEach, Settling}
@@ -75,18 +77,27 @@ module _ {K R : Type 0} (words : Bool → Keywords K R) (is_whole : K → Bool) 
     PlanMeets plan = (texts : Bool) (root : Data) (depth : ℕ) → Reads is_whole nodes count w p s (reading w texts root depth) → left nodes count i s busy ≤ depth
         → MeetsEach w.matcher old (elim plan [ node_always ↦ [] | node_never ↦ [] | node_these xs ↦ plan_met mode (parts_looked words nodes w texts root depth i path p busy xs) ]) new
 
-    pub meets_by_plan : (plan : NodePlan K) → nodes.entries i ≡ plan → PlanMeets plan → NodeMeets words is_whole nodes count w mode path p busy s old new i
-    meets_by_plan plan e h texts root depth reads l = go depth l reads
-      where
-        go : (d : ℕ) → left nodes count i s busy < d → Reads is_whole nodes count w p s (reading w texts root d) → MeetsEach w.matcher old ((deep_run words nodes w texts root d i path p busy).met mode) new
-        go zero l reads = absurd (omega arith)
-        go (suc d) l reads = (subst PlanMeets (sym e) h) texts root d (record { stands = reads.stands; tells = reads.tells; matcher = reads.matcher; completes = reads.completes }) (omega (arith, l))
+    module _ (never : (texts : Bool) → NeverTold (words texts)) where
+      pub meets_by_plan : (plan : NodePlan K) → nodes.entries i ≡ plan → PlanMeets plan → NodeMeets words is_whole nodes count w mode path p busy s old new i
+      meets_by_plan plan e h texts root depth reads l = go depth l reads
+        where
+          plan_is : (d : ℕ) (plan : NodePlan K)
+              → ◌≡◌ {A = List Met} (elim plan [ node_always ↦ [] | node_never ↦ [] | node_these xs ↦ plan_met mode (parts_looked words nodes w texts root d i path p busy xs) ])
+              (elim plan [ node_always ↦ [] | node_never ↦ [] | node_these xs ↦ node_met mode (node_looked_at (words texts) w.matcher nodes (subject_in root) w.assumptions i path p (edge_run words nodes w texts root d path p busy) xs) ])
+          plan_is d node_always = refl
+          plan_is d node_never = refl
+          plan_is d (node_these xs) = sym (met_alone_are (words texts) w.matcher nodes (subject_in root) w.assumptions i path p (edge_run words nodes w texts root d path p busy) mode xs (never_none (words texts) (never texts) xs))
 
-    pub meets_never : nodes.entries i ≡ node_never → old ≡ new → NodeMeets words is_whole nodes count w mode path p busy s old new i
-    meets_never e same = meets_by_plan node_never e (λ texts root depth reads l. same)
+          go : (d : ℕ) → left nodes count i s busy < d → Reads is_whole nodes count w p s (reading w texts root d) → MeetsEach w.matcher old ((deep_run words nodes w texts root d i path p busy).met mode) new
+          go zero l reads = absurd (omega arith)
+          go (suc d) l reads = meets_same w.matcher old new _ _ (plan_is d (nodes.entries i))
+              ((subst PlanMeets (sym e) h) texts root d (record { stands = reads.stands; tells = reads.tells; matcher = reads.matcher; completes = reads.completes }) (omega (arith, l)))
 
-    pub meets_these : (xs : List (NodePart K)) → nodes.entries i ≡ node_these xs → PartsMeet words is_whole nodes count w mode path p busy s old new i xs → NodeMeets words is_whole nodes count w mode path p busy s old new i
-    meets_these xs e h = meets_by_plan (node_these xs) e h
+      pub meets_never : nodes.entries i ≡ node_never → old ≡ new → NodeMeets words is_whole nodes count w mode path p busy s old new i
+      meets_never e same = meets_by_plan node_never e (λ texts root depth reads l. same)
+
+      pub meets_these : (xs : List (NodePart K)) → nodes.entries i ≡ node_these xs → PartsMeet words is_whole nodes count w mode path p busy s old new i xs → NodeMeets words is_whole nodes count w mode path p busy s old new i
+      meets_these xs e h = meets_by_plan (node_these xs) e h
 
 -- ---- entries
 
@@ -232,7 +243,7 @@ module _ {K R : Type 0} (words : Bool → Keywords K R) (nodes : Nodes K) (w : S
   edge_is path p busy e b = across_is (words texts) w.matcher nodes (subject_in root) w.assumptions depth (outcome_is (words texts) w.matcher nodes (subject_in root) w.assumptions depth) path p busy e b
 
   pub holds_is : (i : ℕ) (path : Text) (p : Place) (busy : List ℕ) (name : Text) (form : NodeForm K) → part_holds words nodes w texts root depth i path p busy name form ≡ (form_says words nodes (reading w texts root depth) i path p busy name form).verdict
-  holds_is i path p busy name form = λ j. (node_part (words texts) w.matcher nodes (subject_in root) (completion_of w.assumptions) i path p (λ e b. edge_is path p busy e b j) name form).verdict
+  holds_is i path p busy name form = λ j. (node_part (words texts) w.matcher nodes (subject_in root) (completion_of w.assumptions) i path p (λ e b. edge_is path p busy e b j) spans_nothing name form).verdict
 
   child_is : (path : Text) (p : Place) (busy : List ℕ) (es : Children) (q : Question) → (child_run words nodes w texts root depth path p busy es q).outcome tt ≡ child_says words nodes (reading w texts root depth) path p busy es q
   child_is path p busy es q = by (node_child es q.child)

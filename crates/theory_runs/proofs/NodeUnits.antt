@@ -10,9 +10,11 @@ use Rattle.theory_definitions.specs.Laws.{IsRight}
 use Rattle.theory_definitions.specs.Matching.{Assumptions, matching}
 use Rattle.theory_definitions.specs.Meaning.{Where}
 use Rattle.theory_meaning.specs.Numbered.{left, subject_in}
+use Rattle.theory_meaning.specs.Untold.{NeverTold}
+use Rattle.theory_meaning.proofs.Untold.{entries_alone_are, never_none}
 use Rattle.theory_definitions.specs.Reports.{Unit_, report_of}
-use Rattle.theory_definitions.specs.Guarded.{Children, NodeEdge, NodeForm, NodePart, NodePlan, node_always, node_at, node_child, node_keyword, node_never, node_reference, node_these, same_edge, yes_unit}
-use Rattle.theory_definitions.specs.Units.{Entry, entry_units, false_unit, given_units, no_unit, plan_unit, reference_units, schema_unit, true_unit}
+use Rattle.theory_definitions.specs.Guarded.{Children, NodeEdge, NodeForm, NodePart, NodePlan, node_always, node_at, node_child, node_entries_of, node_keyword, node_never, node_others, node_reference, node_these, same_edge, yes_unit, yes_valued}
+use Rattle.theory_definitions.specs.Units.{Entry, Valued, entry_units, false_unit, given_units, no_unit, plan_unit, reference_units, schema_unit, true_unit}
 use Rattle.theory_definitions.specs.UnitOrder.{Placed, all_placed, each_placed, nothing_placed, placed}
 use Rattle.theory_meaning.specs.UnitsOrdered.{placed_in_order}
 use Rattle.schema_reports.specs.UnitViews.{unit_of}
@@ -28,7 +30,7 @@ use Rattle.schema_run_steps.specs.NodeRuns.{Reading, Reads, child_says, edge_nee
 use Rattle.schema_run_context.specs.Progress.{Context, Pairs}
 use Rattle.schema_run_steps.specs.Askings.{Asking}
 use Rattle.theory_runs.specs.RunStates.{MeetsEdge, MeetsNode, Setting, busy, settled_by}
-use Rattle.theory_runs.specs.UnitStates.{ChildGives, ChildTells, EdgeGives, FindsRightly, FindsUnits, FormGives, NodeGives, PartsGive, child_unit, deep_unit, edge_unit, parts_units}
+use Rattle.theory_runs.specs.UnitStates.{ChildGives, ChildTells, EdgeGives, FindsRightly, FindsUnits, FormGives, NodeGives, PartsGive, child_unit, deep_unit, deep_valued, edge_unit, edge_valued, parts_units}
 use Rattle.schema_traits.specs.declared.keyword.Answer as code_answer
 use Rattle.schema_traits.specs.declared.keyword.Reply as code_reply
 use Rattle.schema_run_context.proofs.Matches.{moved}
@@ -44,14 +46,14 @@ module _ {K R : Type 0} (g : Setting K R) (q : Asking) (c : Context) where
 
     -- A pair in progress has an empty unit.
     pub gives_busy : e.guarded ≡ true → is_busy ≡ true → ((texts : Bool) → unit_of texts u ≡ yes_unit g.nodes e.node (q.path ++ e.path) q.place) → EdgeGives g q c e u
-    gives_busy guarded t is x reads l = is x.texts ∙ sym (busy_case e.guarded is_busy (deep_unit g.words g.nodes x e.node (q.path ++ e.path) q.place (busy g q c)) (deep_unit g.words g.nodes x e.node (q.path ++ e.path) q.place (e.node ∷ busy g q c)) (yes_unit g.nodes e.node (q.path ++ e.path) q.place) guarded t)
+    gives_busy guarded t is x reads l = is x.texts ∙ sym (ap (λ (v : Valued). v.units) (busy_case e.guarded is_busy (deep_valued g.words g.nodes x e.node (q.path ++ e.path) q.place (busy g q c)) (deep_valued g.words g.nodes x e.node (q.path ++ e.path) q.place (e.node ∷ busy g q c)) (yes_valued g.nodes e.node (q.path ++ e.path) q.place) guarded t))
 
     -- An unguarded edge has the unit of its node.
     pub gives_free : e.guarded ≡ false → (q' : Asking) → q' ≡ record q { path = q.path ++ e.path } → NodeGives g q' c e.node u → EdgeGives g q c e u
     gives_free free q' is h x reads l =
         let needs : edge_needs g.nodes g.count e q.subject (busy g q c) ≡ suc (left g.nodes g.count e.node q.subject (busy g q c)) = free_case e.guarded is_busy _ (suc (left g.nodes g.count e.node q.subject (e.node ∷ busy g q c))) 0 free in
         let there : NodeGives g (record q { path = q.path ++ e.path }) c e.node u = subst (λ z. NodeGives g z c e.node u) is h in
-        there x reads (omega (arith, needs, l)) ∙ sym (free_case e.guarded is_busy (deep_unit g.words g.nodes x e.node (q.path ++ e.path) q.place (busy g q c)) (deep_unit g.words g.nodes x e.node (q.path ++ e.path) q.place (e.node ∷ busy g q c)) (yes_unit g.nodes e.node (q.path ++ e.path) q.place) free)
+        there x reads (omega (arith, needs, l)) ∙ sym (ap (λ (v : Valued). v.units) (free_case e.guarded is_busy (deep_valued g.words g.nodes x e.node (q.path ++ e.path) q.place (busy g q c)) (deep_valued g.words g.nodes x e.node (q.path ++ e.path) q.place (e.node ∷ busy g q c)) (yes_valued g.nodes e.node (q.path ++ e.path) q.place) free))
 
     -- A pair that is entered.
     pub gives_entered : e.guarded ≡ true → is_busy ≡ false → (q' : Asking) (c' : Context) → q' ≡ record q { path = q.path ++ e.path } → busy g (record q { path = q.path ++ e.path }) c' ≡ e.node ∷ busy g q c → c'.remembered ≡ c.remembered
@@ -63,7 +65,7 @@ module _ {K R : Type 0} (g : Setting K R) (q : Asking) (c : Context) where
         let enough = ap (left g.nodes g.count e.node q.subject) entered in
         there x reads' (omega (arith, needs, l, enough))
         ∙ ap (deep_unit g.words g.nodes x e.node (q.path ++ e.path) q.place) entered
-        ∙ sym (entered_case e.guarded is_busy (deep_unit g.words g.nodes x e.node (q.path ++ e.path) q.place (busy g q c)) (deep_unit g.words g.nodes x e.node (q.path ++ e.path) q.place (e.node ∷ busy g q c)) (yes_unit g.nodes e.node (q.path ++ e.path) q.place) guarded t)
+        ∙ sym (ap (λ (v : Valued). v.units) (entered_case e.guarded is_busy (deep_valued g.words g.nodes x e.node (q.path ++ e.path) q.place (busy g q c)) (deep_valued g.words g.nodes x e.node (q.path ++ e.path) q.place (e.node ∷ busy g q c)) (yes_valued g.nodes e.node (q.path ++ e.path) q.place) guarded t))
 
     -- It meets the matches that its node meets.
     pub entered_meets : e.guarded ≡ true → is_busy ≡ false → (q' : Asking) (c' c3 : Context) → q' ≡ record q { path = q.path ++ e.path } → busy g (record q { path = q.path ++ e.path }) c' ≡ e.node ∷ busy g q c → c'.remembered ≡ c.remembered
@@ -135,20 +137,36 @@ module _ {K R : Type 0} (g : Setting K R) (q : Asking) (c : Context) where
     PlanGives plan = (x : Reading) → Reads g.is_whole g.nodes g.count (settled_by g q c) q.place q.subject x → left g.nodes g.count i q.subject (busy g q c) ≤ x.depth
         → unit_of x.texts u ≡ elim plan [ node_always ↦ true_unit (there x) | node_never ↦ false_unit (g.words x.texts).texts (there x) (subject_in x.root q.place) | node_these xs ↦ plan_unit (there x) (g.nodes.annotations i) (parts_units g.words g.nodes x i q.path q.place (busy g q c) xs) ]
 
-    gives_by_plan : (plan : NodePlan K) → g.nodes.entries i ≡ plan → PlanGives plan → NodeGives g q c i u
-    gives_by_plan plan e h x reads l = go x.depth l reads
+    gives_by_plan : ((texts : Bool) → NeverTold (g.words texts)) → (plan : NodePlan K) → g.nodes.entries i ≡ plan → PlanGives plan → NodeGives g q c i u
+    gives_by_plan never plan e h x reads l = go x.depth l reads
       where
+        plan_is : (d : ℕ) (plan : NodePlan K)
+            → ◌≡◌ {A = Unit_} (elim plan [ node_always ↦ true_unit (there x) | node_never ↦ false_unit (g.words x.texts).texts (there x) (subject_in x.root q.place) | node_these xs ↦ plan_unit (there x) (g.nodes.annotations i) (parts_units g.words g.nodes (record x { depth = d }) i q.path q.place (busy g q c) xs) ])
+            (elim plan [
+              | node_always ↦ true_unit (there x)
+              | node_never ↦ false_unit (g.words x.texts).texts (there x) (subject_in x.root q.place)
+              | node_these xs ↦ plan_unit (there x) (g.nodes.annotations i) (node_entries_of (g.words x.texts) x.matcher g.nodes (subject_in x.root) x.completion i q.path q.place
+                  (edge_unit g.words g.nodes (record x { depth = d }) q.path q.place (busy g q c))
+                  (node_others (g.words x.texts) x.matcher g.nodes (subject_in x.root) x.completion i q.path q.place (λ f b. (edge_valued g.words g.nodes (record x { depth = d }) q.path q.place (busy g q c) f b).outcome) xs) xs)
+            ])
+        plan_is d node_always = refl
+        plan_is d node_never = refl
+        plan_is d (node_these xs) = ap (plan_unit (there x) (g.nodes.annotations i)) (sym (entries_alone_are (g.words x.texts) x.matcher g.nodes (subject_in x.root) x.completion i q.path q.place
+            (edge_unit g.words g.nodes (record x { depth = d }) q.path q.place (busy g q c))
+            (node_others (g.words x.texts) x.matcher g.nodes (subject_in x.root) x.completion i q.path q.place (λ f b. (edge_valued g.words g.nodes (record x { depth = d }) q.path q.place (busy g q c) f b).outcome) xs)
+            xs (never_none (g.words x.texts) (never x.texts) xs)))
+
         go : (d : ℕ) → left g.nodes g.count i q.subject (busy g q c) < d → Reads g.is_whole g.nodes g.count (settled_by g q c) q.place q.subject (record x { depth = d }) → unit_of x.texts u ≡ deep_unit g.words g.nodes (record x { depth = d }) i q.path q.place (busy g q c)
         go zero l reads = absurd (omega arith)
-        go (suc d) l reads = (subst PlanGives (sym e) h) (record x { depth = d }) (record { stands = reads.stands; tells = reads.tells; matcher = reads.matcher; completes = reads.completes }) (omega (arith, l))
+        go (suc d) l reads = (subst PlanGives (sym e) h) (record x { depth = d }) (record { stands = reads.stands; tells = reads.tells; matcher = reads.matcher; completes = reads.completes }) (omega (arith, l)) ∙ plan_is d (g.nodes.entries i)
 
-    module _ (n : Where) (at_node : (x : Reading) → there x ≡ n) where
+    module _ (never : (texts : Bool) → NeverTold (g.words texts)) (n : Where) (at_node : (x : Reading) → there x ≡ n) where
       pub gives_always : g.nodes.entries i ≡ node_always → ((texts : Bool) → unit_of texts u ≡ true_unit n) → NodeGives g q c i u
-      gives_always e is = gives_by_plan node_always e (λ x reads l. is x.texts ∙ ap true_unit (sym (at_node x)))
+      gives_always e is = gives_by_plan never node_always e (λ x reads l. is x.texts ∙ ap true_unit (sym (at_node x)))
 
       pub gives_never : g.nodes.entries i ≡ node_never → ((texts : Bool) → (g.words texts).texts ≡ texts)
           → ((x : Reading) → Reads g.is_whole g.nodes g.count (settled_by g q c) q.place q.subject x → unit_of x.texts u ≡ false_unit x.texts n q.subject) → NodeGives g q c i u
-      gives_never e speaks is = gives_by_plan node_never e (λ x reads l. is x reads
+      gives_never e speaks is = gives_by_plan never node_never e (λ x reads l. is x reads
           ∙ ap (λ texts. false_unit texts n q.subject) (sym (speaks x.texts))
           ∙ ap (λ n. false_unit (g.words x.texts).texts n q.subject) (sym (at_node x))
           ∙ ap (false_unit (g.words x.texts).texts (there x)) (sym (stands_in x.root q.place q.subject reads.stands)))
@@ -156,7 +174,7 @@ module _ {K R : Type 0} (g : Setting K R) (q : Asking) (c : Context) where
       pub gives_these : (xs : List (NodePart K)) (us : List EvaluationNode) (annotations : Option Data) → g.nodes.entries i ≡ node_these xs → g.nodes.annotations i ≡ annotations
           → ((texts : Bool) → unit_of texts u ≡ schema_unit n (list_all (λ child. (report_of child).valid) (map (unit_of texts) us)) annotations [] (map (unit_of texts) us))
           → PartsGive g q c i xs us → NodeGives g q c i u
-      gives_these xs us annotations e notes is h = gives_by_plan (node_these xs) e (λ x reads l.
+      gives_these xs us annotations e notes is h = gives_by_plan never (node_these xs) e (λ x reads l.
           let of_node = λ (n : Where) (o : Option Data) (children : List Unit_). schema_unit n (list_all (λ child. (report_of child).valid) children) o [] children in
           is x.texts ∙ ap (of_node n annotations) (h x reads l) ∙ ap (λ n. of_node n annotations (entry_units (parts_units g.words g.nodes x i q.path q.place (busy g q c) xs))) (sym (at_node x))
           ∙ ap (λ o. of_node (there x) o (entry_units (parts_units g.words g.nodes x i q.path q.place (busy g q c) xs))) (sym notes))

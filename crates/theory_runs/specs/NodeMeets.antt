@@ -3,10 +3,12 @@ use Rattle.std.specs.Prelude.{◌<◌, ◌≤◌, ℕ, Bool, true, false, [], Li
 use Rattle.serde_json.specs.Data.{Data}
 use Rattle.theory_definitions.specs.Instance.{Place, Subject, Text}
 use Rattle.theory_definitions.specs.Matching.{completion_of}
+use Rattle.theory_definitions.specs.Reports.{spans_nothing}
 use Rattle.theory_definitions.specs.Keywords.{Below, Keywords, Mode, Question, for_all, for_first, for_units, for_verdict, here}
 use Rattle.theory_definitions.specs.Runs.{Looked, Met, Run, no_run, plan_met}
-use Rattle.theory_definitions.specs.Guarded.{Children, NodeEdge, NodeForm, NodePart, Nodes, across, guarded_node, guarded_within, node_asked, node_looked, node_part, node_part_met, yes_run}
+use Rattle.theory_definitions.specs.Guarded.{Children, NodeEdge, NodeForm, NodePart, Nodes, across, guarded_node, guarded_within, node_asked, node_part, node_part_met, yes_run}
 use Rattle.theory_meaning.specs.Numbered.{left, subject_in}
+use Rattle.theory_meaning.specs.Untold.{each_looked_alone, looked_alone}
 use Rattle.theory_definitions.specs.Unfinished.{Remembered}
 use Rattle.schema_run_context.specs.Matches.{MeetsEach, Settling}
 use Rattle.schema_run_steps.specs.NodeRuns.{Reading, Reads, edge_needs}
@@ -43,19 +45,19 @@ module _ {K R : Type 0} (words : Bool → Keywords K R) (nodes : Nodes K) (w : S
 
   -- The matches that a keyword or a reference meets.
   abbrev pub form_met : ℕ → Text → Place → List ℕ → Text → NodeForm K → Mode → List Met
-  form_met i path p busy = node_part_met (words texts) w.matcher nodes (subject_in root) w.assumptions i path p (edge_run path p busy)
+  form_met i path p busy = node_part_met (words texts) w.matcher nodes (subject_in root) w.assumptions i path p (edge_run path p busy) spans_nothing
 
   -- Whether a keyword or a reference holds.
   abbrev pub part_holds : ℕ → Text → Place → List ℕ → Text → NodeForm K → Bool
-  part_holds i path p busy name form = (node_part (words texts) w.matcher nodes (subject_in root) (completion_of w.assumptions) i path p (λ e b. (edge_run path p busy e b).outcome tt) name form).verdict
+  part_holds i path p busy name form = (node_part (words texts) w.matcher nodes (subject_in root) (completion_of w.assumptions) i path p (λ e b. (edge_run path p busy e b).outcome tt) spans_nothing name form).verdict
 
   -- An entry, with what its run meets.
   abbrev pub part_looked : ℕ → Text → Place → List ℕ → NodePart K → Looked
-  part_looked i path p busy x = record { is_leaf = x.is_leaf; holds = part_holds i path p busy x.name x.form; met = form_met i path p busy x.name x.form }
+  part_looked i path p busy = looked_alone (words texts) w.matcher nodes (subject_in root) w.assumptions i path p (edge_run path p busy)
 
   -- Several entries, with what their runs meet.
   abbrev pub parts_looked : ℕ → Text → Place → List ℕ → List (NodePart K) → List Looked
-  parts_looked i path p busy = node_looked (words texts) w.matcher nodes (subject_in root) w.assumptions i path p (edge_run path p busy)
+  parts_looked i path p busy = each_looked_alone (words texts) w.matcher nodes (subject_in root) w.assumptions i path p (edge_run path p busy)
 
 -- ---- what a run remembers after its nodes have met matches for a subject at a place, in every
 -- reading in which the subject is at that place

@@ -6,12 +6,13 @@ use Rattle.theory_definitions.specs.Keywords.{Below, Keywords, Mode, Question, R
 use Rattle.theory_definitions.specs.Laws.{IsRight}
 use Rattle.theory_definitions.specs.Matching.{matching}
 use Rattle.theory_meaning.specs.Numbered.{Ranked, left, subject_in}
-use Rattle.theory_definitions.specs.Reports.{Outcome, Unit_}
+use Rattle.theory_meaning.specs.Untold.{entries_alone}
+use Rattle.theory_definitions.specs.Reports.{Outcome, Unit_, spans_nothing}
 use Rattle.theory_definitions.specs.Runs.{first_error}
-use Rattle.theory_definitions.specs.Units.{Entry, PartUnits, entry_units, no_unit}
+use Rattle.theory_definitions.specs.Units.{Entry, PartUnits, Valued, entry_units, no_unit}
 use Rattle.schema_reports.specs.UnitViews.{unit_of}
 use Rattle.schema_run_steps.specs.EntryUnits.{entry_units_of}
-use Rattle.theory_definitions.specs.Guarded.{Children, NodeEdge, NodeForm, NodePart, Nodes, across, guarded_within, node_asked, node_entries_of, node_part_units, node_unit, same_edge, yes_unit}
+use Rattle.theory_definitions.specs.Guarded.{Children, NodeEdge, NodeForm, NodePart, Nodes, across, guarded_within, node_asked, node_part_units, node_valued, same_edge, yes_valued}
 use Rattle.schema_reports.specs.declared.evaluation.EvaluationNode.{EvaluationNode}
 use Rattle.schema_run_steps.specs.declared.evaluation_order.EntryUnits.{EntryUnits}
 use Rattle.schema_traits.specs.KeywordViews.{answer_of, reply_of}
@@ -25,17 +26,25 @@ use Rattle.schema_traits.specs.declared.keyword.Reply as code
 
 -- The units of nodes in a reading.
 module _ {K R : Type 0} (words : Bool → Keywords K R) (nodes : Nodes K) (x : Reading) where
-  -- The unit of a node, given the units of its edges.
-  abbrev pub unit_here : ℕ → Text → Place → (NodeEdge → Below → Unit_) → Unit_
-  unit_here = node_unit (words x.texts) x.matcher nodes (subject_in x.root) x.completion
+  -- The outcome and the unit of a node, given those of its edges.
+  abbrev pub valued_here : ℕ → Text → Place → (NodeEdge → Below → Valued) → Valued
+  valued_here = node_valued (words x.texts) x.matcher nodes (subject_in x.root) x.completion
+
+  -- The outcome and the unit of a node with these nodes in progress.
+  abbrev pub deep_valued : ℕ → Text → Place → List ℕ → Valued
+  deep_valued = guarded_within (yes_valued nodes) valued_here x.depth
 
   -- The unit of a node with these nodes in progress.
   abbrev pub deep_unit : ℕ → Text → Place → List ℕ → Unit_
-  deep_unit = guarded_within (yes_unit nodes) unit_here x.depth
+  deep_unit i path p busy = (deep_valued i path p busy).units
+
+  -- The outcome and the unit of an edge.
+  abbrev pub edge_valued : Text → Place → List ℕ → NodeEdge → Below → Valued
+  edge_valued = across (yes_valued nodes) valued_here deep_valued
 
   -- The unit of an edge.
   abbrev pub edge_unit : Text → Place → List ℕ → NodeEdge → Below → Unit_
-  edge_unit = across (yes_unit nodes) unit_here deep_unit
+  edge_unit path p busy e b = (edge_valued path p busy e b).units
 
   -- The unit that answers a question of a keyword.
   abbrev pub child_unit : Text → Place → List ℕ → Children → Question → Unit_
@@ -43,11 +52,11 @@ module _ {K R : Type 0} (words : Bool → Keywords K R) (nodes : Nodes K) (x : R
 
   -- The units of a keyword or a reference.
   abbrev pub form_units : ℕ → Text → Place → List ℕ → Text → NodeForm K → PartUnits
-  form_units i path p busy = node_part_units (words x.texts) x.matcher nodes (subject_in x.root) x.completion i path p (edge_unit path p busy)
+  form_units i path p busy = node_part_units (words x.texts) x.matcher nodes (subject_in x.root) x.completion i path p (edge_unit path p busy) spans_nothing
 
   -- The units of several entries.
   abbrev pub parts_units : ℕ → Text → Place → List ℕ → List (NodePart K) → List Entry
-  parts_units i path p busy = node_entries_of (words x.texts) x.matcher nodes (subject_in x.root) x.completion i path p (edge_unit path p busy)
+  parts_units i path p busy = entries_alone (words x.texts) x.matcher nodes (subject_in x.root) x.completion i path p (edge_unit path p busy)
 
 -- The reply of an outcome and a unit in a mode.
 abbrev pub reply_with : Mode → Outcome → Unit_ → Reply

@@ -15,6 +15,7 @@ use Rattle.std.specs.List.{list_any}
 use Rattle.schema_run_context.specs.EvaluationPaths.{path_of}
 use Rattle.theory_definitions.specs.Meaning.{Where}
 use Rattle.theory_meaning.specs.Numbered.{left, subject_in}
+use Rattle.theory_definitions.specs.Reports.{spans_nothing}
 use Rattle.theory_definitions.specs.Runs.{keyword_met, plan_met, site_at}
 use Rattle.theory_definitions.specs.Unfinished.{Remembered}
 use Rattle.theory_definitions.specs.Matching.{Matcher, completed, matching, settled}
@@ -168,7 +169,7 @@ run::run_refused-returns-then-valid g t c =
       keeps = first_of (search rules, grind (arith, common_steps));
       counts = first_of (search rules, grind (arith, common_steps));
       works = first_of (search rules, grind (arith, common_steps));
-      says = edge_accepts set q e (λ texts m s completion matcher a h. (g.met.K.Validate.function_laws texts m).agree s (matching matcher completion) a h) c.args.context.now c.in_ok-valid.valid c.accepted.result c.if-valid.true c.in_ok-valid.ensures.says c.accepted.ensures.accepts c.accepted.ensures.no_errors;
+      says = edge_accepts set q e (λ texts m s matches a h. (g.met.K.Validate.function_laws texts m).agree s matches a h) c.args.context.now c.in_ok-valid.valid c.accepted.result c.if-valid.true c.in_ok-valid.ensures.says c.accepted.ensures.accepts c.accepted.ensures.no_errors;
       meets = verdict_meets set q e c.requires.finishes c.args.context.now c.verdict_edge.new.context c.in_ok-valid.ensures.meets;
       stays = first_of (search rules, grind (arith, common_steps));
     }
@@ -261,7 +262,7 @@ run::run_plan-returns-in-Never g t c = record {
       let p = steps_to c.args.question.now.place.now in
       let s = subject_of c.args.question.now.instance in
       let plan = plan_is g.K.Validate.shape c.args.engine.now.nodes.now c.args.node.0 n _ c.node-found.ensures.found (ap (option_map plan_of) c.in-Some.is ∙ ap (λ f. Some (plan_of f)) c.in-Never.is) in
-      if_ok_both c.refused.result _ _ _ (λ r refuses borrows. node_by_plan g.K.Validate.words g.K.Validate.is_whole ns (length c.args.engine.now.nodes.now) (settling (g.M.Matcher.matching c.args.engine.now.matcher.now) c.args.context.now.remembered.assumptions) (mode_of c.args.question.now.mode) (path_of c.args.question.now.path.now) p (busy_at p c.args.context.now.in_progress) s c.args.node.0 r node_never plan
+      if_ok_both c.refused.result _ _ _ (λ r refuses borrows. node_by_plan g.K.Validate.words g.K.Validate.is_whole ns (length c.args.engine.now.nodes.now) (settling (g.M.Matcher.matching c.args.engine.now.matcher.now) c.args.context.now.remembered.assumptions) (mode_of c.args.question.now.mode) (path_of c.args.question.now.path.now) p (busy_at p c.args.context.now.in_progress) s c.args.node.0 r g.met.K.Validate.never_told node_never plan
       (λ x reads l. replies_refused g.K.Validate.shape c.args.engine.now.nodes.now g.K.Validate.words x (mode_of c.args.question.now.mode) (path_of c.args.question.now.path.now) p s c.args.node.0 n r c.node-found.ensures.found (g.met.K.Validate.speaks x.texts) reads.stands
       (refuses x.texts (plain_there g.K.Validate.is_whole ns (length c.args.engine.now.nodes.now) (settling (g.M.Matcher.matching c.args.engine.now.matcher.now) c.args.context.now.remembered.assumptions) p s x reads)) (borrows x.root reads.stands))) c.refused.ensures.refuses c.refused.ensures.borrows;
   meets =
@@ -271,7 +272,7 @@ run::run_plan-returns-in-Never g t c = record {
       let s = subject_of c.args.question.now.instance in
       let busy = busy_at p c.args.context.now.in_progress in
       let plan = plan_is g.K.Validate.shape c.args.engine.now.nodes.now c.args.node.0 (node_of c.node-found.result.now) _ c.node-found.ensures.found (ap (option_map plan_of) c.in-Some.is ∙ ap (λ f. Some (plan_of f)) c.in-Never.is) in
-      if_ok_always c.refused.result _ (meets_never g.K.Validate.words g.K.Validate.is_whole ns (length c.args.engine.now.nodes.now) w (mode_of c.args.question.now.mode) (path_of c.args.question.now.path.now) p busy s c.args.node.0 _ _ plan refl);
+      if_ok_always c.refused.result _ (meets_never g.K.Validate.words g.K.Validate.is_whole ns (length c.args.engine.now.nodes.now) w (mode_of c.args.question.now.mode) (path_of c.args.question.now.path.now) p busy s c.args.node.0 _ _ g.met.K.Validate.never_told plan refl);
   stays = first_of (search rules, grind (arith, common_steps));
 }
 
@@ -284,7 +285,7 @@ run::run_plan-returns-in-Keywords g t c = record {
       let ns = numbered g.K.Validate.shape c.args.engine.now.nodes.now in
       let p = steps_to c.args.question.now.place.now in
       let plan = plan_is g.K.Validate.shape c.args.engine.now.nodes.now c.args.node.0 (node_of c.node-found.result.now) _ c.node-found.ensures.found (ap (option_map plan_of) c.in-Some.is ∙ ap (λ f. Some (plan_of f)) c.in-Keywords.is) in
-      if_ok_mono c.run_entries.result _ _ (λ r says. node_by_plan g.K.Validate.words g.K.Validate.is_whole ns (length c.args.engine.now.nodes.now) (settling (g.M.Matcher.matching c.args.engine.now.matcher.now) c.args.context.now.remembered.assumptions) (mode_of c.args.question.now.mode) (path_of c.args.question.now.path.now) p (busy_at p c.args.context.now.in_progress) (subject_of c.args.question.now.instance) c.args.node.0 r _ plan says)
+      if_ok_mono c.run_entries.result _ _ (λ r says. node_by_plan g.K.Validate.words g.K.Validate.is_whole ns (length c.args.engine.now.nodes.now) (settling (g.M.Matcher.matching c.args.engine.now.matcher.now) c.args.context.now.remembered.assumptions) (mode_of c.args.question.now.mode) (path_of c.args.question.now.path.now) p (busy_at p c.args.context.now.in_progress) (subject_of c.args.question.now.instance) c.args.node.0 r g.met.K.Validate.never_told _ plan says)
       (rw c.as_slice.ensures.value at c.run_entries.ensures.says);
   meets =
       let ns = numbered g.K.Validate.shape c.args.engine.now.nodes.now in
@@ -293,7 +294,7 @@ run::run_plan-returns-in-Keywords g t c = record {
       let s = subject_of c.args.question.now.instance in
       let busy = busy_at p c.args.context.now.in_progress in
       let plan = plan_is g.K.Validate.shape c.args.engine.now.nodes.now c.args.node.0 (node_of c.node-found.result.now) _ c.node-found.ensures.found (ap (option_map plan_of) c.in-Some.is ∙ ap (λ f. Some (plan_of f)) c.in-Keywords.is) in
-      if_ok_mono c.run_entries.result _ _ (λ r met. meets_these g.K.Validate.words g.K.Validate.is_whole ns (length c.args.engine.now.nodes.now) w (mode_of c.args.question.now.mode) (path_of c.args.question.now.path.now) p busy s c.args.node.0 _ _ _ plan met) (rw c.as_slice.ensures.value at c.run_entries.ensures.meets);
+      if_ok_mono c.run_entries.result _ _ (λ r met. meets_these g.K.Validate.words g.K.Validate.is_whole ns (length c.args.engine.now.nodes.now) w (mode_of c.args.question.now.mode) (path_of c.args.question.now.path.now) p busy s c.args.node.0 _ _ g.met.K.Validate.never_told _ plan met) (rw c.as_slice.ensures.value at c.run_entries.ensures.meets);
   stays = first_of (search rules, grind (arith, common_steps));
 }
 
@@ -343,7 +344,7 @@ run::run_entries-loop-entry-preserved g t c = record {
       let so_far = c.loop-entry.invariant.so_far (reading w texts root depth) reads l in
       let met = c.loop-entry.invariant.met texts root depth reads l in
       let split = ap (λ es. plan_met mode (looked es)) (drop_at c.args.entries.now c.loop-entry.entry-index c.entry-item.result c.loop-entry-test.true c.entry-item.is) in
-      let agrees = agrees_says g.K.Validate.words ns (λ texts m s completion matcher a h. (g.met.K.Validate.function_laws texts m).agree s (matching matcher completion) a h) (reading w texts root depth) c.args.node.0 (path_of c.args.question.now.path.now) p busy part.name part.form in
+      let agrees = agrees_says g.K.Validate.words ns (λ texts m s matches a h. (g.met.K.Validate.function_laws texts m).agree s matches a h) (reading w texts root depth) c.args.node.0 (path_of c.args.question.now.path.now) p busy part.name part.form in
       let last = stops_at g.K.Validate.words ns w texts root depth mode c.args.node.0 (path_of c.args.question.now.path.now) p busy part c.loop-entry.found c.in_ok-more.more c.in_ok-found.found so_far.0 _ agrees so_far.1 says c.in_ok-found.ensures.both (c.loop-entry.invariant.unsettled texts) (sym (c.is_settled.ensures.settled texts) ∙ c.if-is_settled.false) in
       next_met w.matcher mode (part_looked g.K.Validate.words ns w texts root depth c.args.node.0 (path_of c.args.question.now.path.now) p busy part) (looked (drop (c.loop-entry.entry-index + 1) c.args.entries.now)) _ _ met.0 _ _ _ met.1 here met.2 split last;
   so_far = λ x reads l.
@@ -383,7 +384,7 @@ run::run_entries-returns-then-is_settled g t c = record {
       let so_far = c.loop-entry.invariant.so_far (reading w texts root depth) reads l in
       let met = c.loop-entry.invariant.met texts root depth reads l in
       let split = ap (λ es. plan_met mode (looked es)) (drop_at c.args.entries.now c.loop-entry.entry-index c.entry-item.result c.loop-entry-test.true c.entry-item.is) in
-      let agrees = agrees_says g.K.Validate.words ns (λ texts m s completion matcher a h. (g.met.K.Validate.function_laws texts m).agree s (matching matcher completion) a h) (reading w texts root depth) c.args.node.0 (path_of c.args.question.now.path.now) p busy part.name part.form in
+      let agrees = agrees_says g.K.Validate.words ns (λ texts m s matches a h. (g.met.K.Validate.function_laws texts m).agree s matches a h) (reading w texts root depth) c.args.node.0 (path_of c.args.question.now.path.now) p busy part.name part.form in
       let last = stops_at g.K.Validate.words ns w texts root depth mode c.args.node.0 (path_of c.args.question.now.path.now) p busy part c.loop-entry.found c.in_ok-more.more c.in_ok-found.found so_far.0 _ agrees so_far.1 says c.in_ok-found.ensures.both (c.loop-entry.invariant.unsettled texts) (sym (c.is_settled.ensures.settled texts) ∙ c.if-is_settled.true) in
       last_met w.matcher mode (part_looked g.K.Validate.words ns w texts root depth c.args.node.0 (path_of c.args.question.now.path.now) p busy part) (looked (drop (c.loop-entry.entry-index + 1) c.args.entries.now)) _ _ met.0 _ _ _ met.1 here met.2 split last;
   stays = λ layout laid right. c.in_ok-more.ensures.stays layout laid (c.loop-entry.invariant.stays layout laid right);
@@ -404,7 +405,7 @@ run::run_entry-returns-then-valid g t c = record {
   counts = first_of (search rules, grind (arith, common_steps));
   works = first_of (search rules, grind (arith, common_steps));
   says = λ x reads l.
-      leaf_accepts g.K.Validate.words (numbered g.K.Validate.shape c.args.engine.now.nodes.now) (λ texts m s completion matcher a h. (g.met.K.Validate.function_laws texts m).agree s (matching matcher completion) a h) x (mode_of c.args.question.now.mode) c.args.node.0 (path_of c.args.question.now.path.now) (steps_to c.args.question.now.place.now)
+      leaf_accepts g.K.Validate.words (numbered g.K.Validate.shape c.args.engine.now.nodes.now) (λ texts m s matches a h. (g.met.K.Validate.function_laws texts m).agree s matches a h) x (mode_of c.args.question.now.mode) c.args.node.0 (path_of c.args.question.now.path.now) (steps_to c.args.question.now.place.now)
       (busy_at (steps_to c.args.question.now.place.now) c.args.context.now.in_progress) c.args.entry.now.name _ (told.Truth c.in_ok-valid.valid) c.accepted.result c.if-valid.true (c.in_ok-valid.ensures.says x reads l) c.accepted.ensures.accepts c.accepted.ensures.no_errors;
   meets = λ texts root depth reads l.
       let ns = numbered g.K.Validate.shape c.args.engine.now.nodes.now in
@@ -556,7 +557,7 @@ turns::run_turns-turns-init g t c =
       worked = spends_none c.args.context.now.work;
       borrows = λ root at_place. (All-nil (BorrowsItsPlace root), subst (All (PassesBorrowed root)) (sym c.requires.no_faults) (All-nil (PassesBorrowed root)));
       leads = λ x reads l. begins_on (g.K.Validate.words x.texts) m (g.K.Validate.absorbed m) (g.K.Validate.remaining m) (g.K.Validate.can_be x.texts m) (g.K.Validate.ends x.texts m) (g.K.Validate.fits x.texts m) (g.met.K.Validate.turn_laws x.texts m) s x (mode_of c.args.question.now.mode) (child_says g.K.Validate.words ns x (path_of c.args.question.now.path.now) p busy es) (child_unit g.K.Validate.words ns x (path_of c.args.question.now.path.now) p busy es) (same_edge es) c.args.context.now.marking (c.args.run.now, answer_of x.texts c.args.answer.now) c.requires.no_marks
-          (agrees_answers g.K.Validate.words ns (λ texts m s completion matcher a h. (g.met.K.Validate.function_laws texts m).agree s (matching matcher completion) a h) x (path_of c.args.question.now.path.now) p busy es)
+          (agrees_answers g.K.Validate.words ns (λ texts m s matches a h. (g.met.K.Validate.function_laws texts m).agree s matches a h) x (path_of c.args.question.now.path.now) p busy es)
           (child_valid g.K.Validate.words g.K.Validate.absorbed (λ texts m. keeps_of_turns (g.K.Validate.words texts) m (g.K.Validate.absorbed m) (g.K.Validate.remaining m) (g.K.Validate.can_be texts m) (g.K.Validate.ends texts m) (g.K.Validate.fits texts m) (g.met.K.Validate.turn_laws texts m) (g.met.K.Validate.function_laws texts m)) ns x (path_of c.args.question.now.path.now) p busy es)
           (asked_alike (g.K.Validate.words x.texts) x.matcher ns (subject_in x.root) x.completion x.depth (path_of c.args.question.now.path.now) p busy es)
           (c.requires.begun x.texts);
@@ -615,7 +616,7 @@ turns::run_turns-returns-in-Done g t c = record {
       let turn = c.in_ok-step.ensures.turns false (tells_nothing (g.K.Validate.is_whole m) s) in
       let tells = tells_keyword g.K.Validate.is_whole ns (length c.args.engine.now.nodes.now) w p s (reading w texts root depth) c.args.node.0 m es c.requires.may.known reads c.requires.form in
       let all = meets_all (g.K.Validate.words texts) w.matcher w.assumptions (node_at (g.K.Validate.words texts) w.matcher ns (subject_in root) c.args.node.0 (path_of c.args.question.now.path.now) p) s (child_run g.K.Validate.words ns w texts root depth (path_of c.args.question.now.path.now) p busy es) (same_edge es) name m (g.K.Validate.remaining m s) _ _ c.turns.context.remembered c.turns.context.marking (c.turns.run, answer_of texts c.turns.answer) (reply_of texts c.turns.reply) (rw c.in-Done.is at (c.in_ok-step.ensures.steps texts tells)) (c.turns.invariant.met texts root depth reads l) in
-      meets_same w.matcher _ _ _ _ (ap (λ v. keyword_met (g.K.Validate.words texts) w.matcher w.assumptions (node_at (g.K.Validate.words texts) w.matcher ns (subject_in root) c.args.node.0 (path_of c.args.question.now.path.now) p) v (child_run g.K.Validate.words ns w texts root depth (path_of c.args.question.now.path.now) p busy es) (same_edge es) name m (mode_of c.args.question.now.mode)) (sym (stands_in root p s reads.stands))) all;
+      meets_same w.matcher _ _ _ _ (ap (λ v. keyword_met (g.K.Validate.words texts) w.matcher w.assumptions (node_at (g.K.Validate.words texts) w.matcher ns (subject_in root) c.args.node.0 (path_of c.args.question.now.path.now) p) v (child_run g.K.Validate.words ns w texts root depth (path_of c.args.question.now.path.now) p busy es) spans_nothing (same_edge es) name m (mode_of c.args.question.now.mode)) (sym (stands_in root p s reads.stands))) all;
   stays = first_of (search rules, grind (arith, common_steps));
 }
 
@@ -1252,7 +1253,7 @@ evaluate::evaluate_plan-returns-in-None g t c = record {
       let p = steps_to c.args.question.now.place.now in
       let n = node_of c.node-found.result.now in
       let plan = plan_none g.K.Validate.shape c.args.engine.now.nodes.now c.args.node.0 n c.node-found.ensures.found (ap (option_map plan_of) c.in-None.is) in
-      if_ok_mono c.accepting_unit.result _ _ (λ u is. gives_always set q c.args.context.now c.args.node.0 u (entry_where n (path_of c.args.question.now.path.now) p) (λ x. where_is g.K.Validate.shape c.args.engine.now.nodes.now (g.K.Validate.words x.texts) x.matcher (subject_in x.root) c.args.node.0 n (path_of c.args.question.now.path.now) p c.node-found.ensures.found) plan is) c.accepting_unit.ensures.unit;
+      if_ok_mono c.accepting_unit.result _ _ (λ u is. gives_always set q c.args.context.now c.args.node.0 u g.met.K.Validate.never_told (entry_where n (path_of c.args.question.now.path.now) p) (λ x. where_is g.K.Validate.shape c.args.engine.now.nodes.now (g.K.Validate.words x.texts) x.matcher (subject_in x.root) c.args.node.0 n (path_of c.args.question.now.path.now) p c.node-found.ensures.found) plan is) c.accepting_unit.ensures.unit;
   meets =
       let ns = numbered g.K.Validate.shape c.args.engine.now.nodes.now in
       let w = settling (g.M.Matcher.matching c.args.engine.now.matcher.now) c.args.context.now.remembered.assumptions in
@@ -1261,7 +1262,7 @@ evaluate::evaluate_plan-returns-in-None g t c = record {
       let busy = busy_at p c.args.context.now.in_progress in
       let n = node_of c.node-found.result.now in
       let plan = plan_none g.K.Validate.shape c.args.engine.now.nodes.now c.args.node.0 n c.node-found.ensures.found (ap (option_map plan_of) c.in-None.is) in
-      if_ok_always c.accepting_unit.result _ (meets_by_plan g.K.Validate.words g.K.Validate.is_whole ns (length c.args.engine.now.nodes.now) w (mode_of c.args.question.now.mode) (path_of c.args.question.now.path.now) p busy s c.args.node.0 _ _ node_always plan (λ texts root depth reads l. sym (ap (λ (z : Context). z.remembered) c.accepting_unit.ensures.stays)));
+      if_ok_always c.accepting_unit.result _ (meets_by_plan g.K.Validate.words g.K.Validate.is_whole ns (length c.args.engine.now.nodes.now) w (mode_of c.args.question.now.mode) (path_of c.args.question.now.path.now) p busy s c.args.node.0 _ _ g.met.K.Validate.never_told node_always plan (λ texts root depth reads l. sym (ap (λ (z : Context). z.remembered) c.accepting_unit.ensures.stays)));
   stays = first_of (search rules, grind (arith, common_steps));
 }
 
@@ -1276,7 +1277,7 @@ evaluate::evaluate_plan-returns-in-Always g t c = record {
       let p = steps_to c.args.question.now.place.now in
       let n = node_of c.node-found.result.now in
       let plan = plan_is g.K.Validate.shape c.args.engine.now.nodes.now c.args.node.0 n _ c.node-found.ensures.found (ap (option_map plan_of) c.in-Some.is ∙ ap (λ f. Some (plan_of f)) c.in-Always.is) in
-      if_ok_mono c.accepting_unit-in-Always.result _ _ (λ u is. gives_always set q c.args.context.now c.args.node.0 u (entry_where n (path_of c.args.question.now.path.now) p) (λ x. where_is g.K.Validate.shape c.args.engine.now.nodes.now (g.K.Validate.words x.texts) x.matcher (subject_in x.root) c.args.node.0 n (path_of c.args.question.now.path.now) p c.node-found.ensures.found) plan is) c.accepting_unit-in-Always.ensures.unit;
+      if_ok_mono c.accepting_unit-in-Always.result _ _ (λ u is. gives_always set q c.args.context.now c.args.node.0 u g.met.K.Validate.never_told (entry_where n (path_of c.args.question.now.path.now) p) (λ x. where_is g.K.Validate.shape c.args.engine.now.nodes.now (g.K.Validate.words x.texts) x.matcher (subject_in x.root) c.args.node.0 n (path_of c.args.question.now.path.now) p c.node-found.ensures.found) plan is) c.accepting_unit-in-Always.ensures.unit;
   meets =
       let ns = numbered g.K.Validate.shape c.args.engine.now.nodes.now in
       let w = settling (g.M.Matcher.matching c.args.engine.now.matcher.now) c.args.context.now.remembered.assumptions in
@@ -1285,7 +1286,7 @@ evaluate::evaluate_plan-returns-in-Always g t c = record {
       let busy = busy_at p c.args.context.now.in_progress in
       let n = node_of c.node-found.result.now in
       let plan = plan_is g.K.Validate.shape c.args.engine.now.nodes.now c.args.node.0 n _ c.node-found.ensures.found (ap (option_map plan_of) c.in-Some.is ∙ ap (λ f. Some (plan_of f)) c.in-Always.is) in
-      if_ok_always c.accepting_unit-in-Always.result _ (meets_by_plan g.K.Validate.words g.K.Validate.is_whole ns (length c.args.engine.now.nodes.now) w (mode_of c.args.question.now.mode) (path_of c.args.question.now.path.now) p busy s c.args.node.0 _ _ node_always plan (λ texts root depth reads l. sym (ap (λ (z : Context). z.remembered) c.accepting_unit-in-Always.ensures.stays)));
+      if_ok_always c.accepting_unit-in-Always.result _ (meets_by_plan g.K.Validate.words g.K.Validate.is_whole ns (length c.args.engine.now.nodes.now) w (mode_of c.args.question.now.mode) (path_of c.args.question.now.path.now) p busy s c.args.node.0 _ _ g.met.K.Validate.never_told node_always plan (λ texts root depth reads l. sym (ap (λ (z : Context). z.remembered) c.accepting_unit-in-Always.ensures.stays)));
   stays = first_of (search rules, grind (arith, common_steps));
 }
 
@@ -1303,7 +1304,7 @@ evaluate::evaluate_plan-returns-in-Never g t c = record {
       let s = subject_of c.args.question.now.instance in
       let n = node_of c.node-found.result.now in
       let plan = plan_is g.K.Validate.shape c.args.engine.now.nodes.now c.args.node.0 n _ c.node-found.ensures.found (ap (option_map plan_of) c.in-Some.is ∙ ap (λ f. Some (plan_of f)) c.in-Never.is) in
-      if_ok_mono c.refusing_unit.result _ _ (λ u is. gives_never set q c.args.context.now c.args.node.0 u (entry_where n (path_of c.args.question.now.path.now) p) (λ x. where_is g.K.Validate.shape c.args.engine.now.nodes.now (g.K.Validate.words x.texts) x.matcher (subject_in x.root) c.args.node.0 n (path_of c.args.question.now.path.now) p c.node-found.ensures.found) plan g.met.K.Validate.speaks (λ x reads. is x.texts (plain_there g.K.Validate.is_whole ns (length c.args.engine.now.nodes.now) w p s x reads))) c.refusing_unit.ensures.unit;
+      if_ok_mono c.refusing_unit.result _ _ (λ u is. gives_never set q c.args.context.now c.args.node.0 u g.met.K.Validate.never_told (entry_where n (path_of c.args.question.now.path.now) p) (λ x. where_is g.K.Validate.shape c.args.engine.now.nodes.now (g.K.Validate.words x.texts) x.matcher (subject_in x.root) c.args.node.0 n (path_of c.args.question.now.path.now) p c.node-found.ensures.found) plan g.met.K.Validate.speaks (λ x reads. is x.texts (plain_there g.K.Validate.is_whole ns (length c.args.engine.now.nodes.now) w p s x reads))) c.refusing_unit.ensures.unit;
   meets =
       let ns = numbered g.K.Validate.shape c.args.engine.now.nodes.now in
       let w = settling (g.M.Matcher.matching c.args.engine.now.matcher.now) c.args.context.now.remembered.assumptions in
@@ -1312,7 +1313,7 @@ evaluate::evaluate_plan-returns-in-Never g t c = record {
       let busy = busy_at p c.args.context.now.in_progress in
       let n = node_of c.node-found.result.now in
       let plan = plan_is g.K.Validate.shape c.args.engine.now.nodes.now c.args.node.0 n _ c.node-found.ensures.found (ap (option_map plan_of) c.in-Some.is ∙ ap (λ f. Some (plan_of f)) c.in-Never.is) in
-      if_ok_always c.refusing_unit.result _ (meets_never g.K.Validate.words g.K.Validate.is_whole ns (length c.args.engine.now.nodes.now) w (mode_of c.args.question.now.mode) (path_of c.args.question.now.path.now) p busy s c.args.node.0 _ _ plan (sym (ap (λ (z : Context). z.remembered) c.refusing_unit.ensures.stays)));
+      if_ok_always c.refusing_unit.result _ (meets_never g.K.Validate.words g.K.Validate.is_whole ns (length c.args.engine.now.nodes.now) w (mode_of c.args.question.now.mode) (path_of c.args.question.now.path.now) p busy s c.args.node.0 _ _ g.met.K.Validate.never_told plan (sym (ap (λ (z : Context). z.remembered) c.refusing_unit.ensures.stays)));
   stays = first_of (search rules, grind (arith, common_steps));
 }
 
@@ -1343,10 +1344,10 @@ evaluate::evaluate_plan-returns-in_ok-children-in-Keywords g t c =
       says =
           let there = back (λ z y. PartsGive set z y c.args.node.0 xs c.in_ok-children-in-Keywords.children) given.says in
           let gives = rw c.as_slice.ensures.value at there in
-          if_ok_mono c.entries_unit.result _ _ (λ u at. gives_these set q c.args.context.now c.args.node.0 u (entry_where n (path_of c.args.question.now.path.now) p) (λ x. where_is g.K.Validate.shape c.args.engine.now.nodes.now (g.K.Validate.words x.texts) x.matcher (subject_in x.root) c.args.node.0 n (path_of c.args.question.now.path.now) p c.node-found.ensures.found) _ c.in_ok-children-in-Keywords.children _ plan notes (λ texts. at texts q path c.in_ok-kept-in-Keywords.ensures.schema (c.in_ok-pointer-in-Keywords.ensures.same ∙ c.in_ok-place-in-Keywords.ensures.pointer)) gives) c.entries_unit.ensures.unit;
+          if_ok_mono c.entries_unit.result _ _ (λ u at. gives_these set q c.args.context.now c.args.node.0 u g.met.K.Validate.never_told (entry_where n (path_of c.args.question.now.path.now) p) (λ x. where_is g.K.Validate.shape c.args.engine.now.nodes.now (g.K.Validate.words x.texts) x.matcher (subject_in x.root) c.args.node.0 n (path_of c.args.question.now.path.now) p c.node-found.ensures.found) _ c.in_ok-children-in-Keywords.children _ plan notes (λ texts. at texts q path c.in_ok-kept-in-Keywords.ensures.schema (c.in_ok-pointer-in-Keywords.ensures.same ∙ c.in_ok-place-in-Keywords.ensures.pointer)) gives) c.entries_unit.ensures.unit;
       meets =
           let met = back (λ z y. MeetsParts set z y after c.args.node.0 xs) given.meets in
-          if_ok_always c.entries_unit.result _ (meets_these g.K.Validate.words g.K.Validate.is_whole ns (length c.args.engine.now.nodes.now) w (mode_of c.args.question.now.mode) (path_of c.args.question.now.path.now) p busy s c.args.node.0 _ _ _ plan (rw c.as_slice.ensures.value at met));
+          if_ok_always c.entries_unit.result _ (meets_these g.K.Validate.words g.K.Validate.is_whole ns (length c.args.engine.now.nodes.now) w (mode_of c.args.question.now.mode) (path_of c.args.question.now.path.now) p busy s c.args.node.0 _ _ g.met.K.Validate.never_told _ plan (rw c.as_slice.ensures.value at met));
       stays = if_ok_always c.entries_unit.result _ (back (λ z y. StaysRight set z y after) given.stays);
     }
 

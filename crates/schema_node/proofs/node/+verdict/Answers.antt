@@ -13,6 +13,7 @@ use Rattle.schema_run_context.specs.EvaluationPaths.{path_of}
 use Rattle.theory_definitions.specs.Meaning.{Where}
 use Rattle.theory_meaning.specs.Numbered.{left, subject_in}
 use Rattle.theory_definitions.specs.Laws.{IsRight}
+use Rattle.theory_definitions.specs.Reports.{spans_nothing}
 use Rattle.theory_definitions.specs.Runs.{keyword_met, plan_met, site_at}
 use Rattle.theory_definitions.specs.Unfinished.{Remembered}
 use Rattle.theory_definitions.specs.Matching.{Matcher, completed, matching, settled}
@@ -183,7 +184,7 @@ verdict::verdict_form-returns-in-Some g t c = record {
       rw c.in-Keyword.is (keyword_replies mode c.requires.verdict g.K.Validate.words g.K.Validate.is_whole ns (length c.args.engine.now.nodes.now) w path p busy s c.args.node.0 c.args.entry.now.name m es c.in-Some.valid (λ x reads l.
       let tells = tells_keyword g.K.Validate.is_whole ns (length c.args.engine.now.nodes.now) w p s x c.args.node.0 m es c.requires.may.known reads form in
       right_at_once (g.K.Validate.words x.texts) m (g.K.Validate.absorbed m) (g.K.Validate.remaining m) (g.K.Validate.can_be x.texts m) (g.K.Validate.ends x.texts m) (g.K.Validate.fits x.texts m) (g.met.K.Validate.turn_laws x.texts m) s x (child_says g.K.Validate.words ns x path p busy es) (same_edge es) c.in-Some.valid
-      (agrees_answers g.K.Validate.words ns (λ texts m s completion matcher a h. (g.met.K.Validate.function_laws texts m).agree s (matching matcher completion) a h) x path p busy es)
+      (agrees_answers g.K.Validate.words ns (λ texts m s matches a h. (g.met.K.Validate.function_laws texts m).agree s matches a h) x path p busy es)
       (asked_alike (g.K.Validate.words x.texts) x.matcher ns (subject_in x.root) x.completion x.depth path p busy es)
       (c.in-Some.ensures.at_once x.texts tells)));
   meets = rw c.in-Keyword.is (λ texts root depth reads l.
@@ -202,8 +203,8 @@ verdict::verdict_form-returns-in-Some g t c = record {
       let runs = child_run g.K.Validate.words ns w texts root depth path p busy es in
       let tells = tells_keyword g.K.Validate.is_whole ns (length c.args.engine.now.nodes.now) w p s (reading w texts root depth) c.args.node.0 m es c.requires.may.known reads form in
       let all = meets_at_once (g.K.Validate.words texts) w.matcher w.assumptions at_node s runs (same_edge es) name m (g.K.Validate.remaining m s) c.args.context.now.remembered c.in-Some.valid (c.in-Some.ensures.at_once texts tells) ((g.met.K.Validate.turn_laws texts m).bounded s for_verdict) in
-      meets_same w.matcher _ _ _ _ (ap (keyword_met (g.K.Validate.words texts) w.matcher w.assumptions at_node s runs (same_edge es) name m) (sym c.requires.verdict)
-      ∙ ap (λ v. keyword_met (g.K.Validate.words texts) w.matcher w.assumptions at_node v runs (same_edge es) name m mode) (sym (stands_in root p s reads.stands))) all);
+      meets_same w.matcher _ _ _ _ (ap (keyword_met (g.K.Validate.words texts) w.matcher w.assumptions at_node s runs spans_nothing (same_edge es) name m) (sym c.requires.verdict)
+      ∙ ap (λ v. keyword_met (g.K.Validate.words texts) w.matcher w.assumptions at_node v runs spans_nothing (same_edge es) name m mode) (sym (stands_in root p s reads.stands))) all);
   stays = search rules;
   remembers = search rules;
 }
@@ -815,7 +816,7 @@ verdict::verdict_plan-returns-in-None g t c = record {
       let mode = mode_of c.args.question.now.mode in
       let path = path_of c.args.question.now.path.now in
       let plan = plan_none g.K.Validate.shape c.args.engine.now.nodes.now c.args.node.0 (node_of c.node.result.now) c.node.ensures.found (ap (option_map plan_of) c.in-None.is) in
-      node_by_plan g.K.Validate.words g.K.Validate.is_whole ns (length c.args.engine.now.nodes.now) w mode path p busy s c.args.node.0 (told.Truth true) node_always plan (λ x reads l. verdict_replies mode c.requires.asked.verdict x true _ refl);
+      node_by_plan g.K.Validate.words g.K.Validate.is_whole ns (length c.args.engine.now.nodes.now) w mode path p busy s c.args.node.0 (told.Truth true) g.met.K.Validate.never_told node_always plan (λ x reads l. verdict_replies mode c.requires.asked.verdict x true _ refl);
   meets =
       let ns = numbered g.K.Validate.shape c.args.engine.now.nodes.now in
       let w = settling (g.M.Matcher.matching c.args.engine.now.matcher.now) c.args.context.now.remembered.assumptions in
@@ -825,7 +826,7 @@ verdict::verdict_plan-returns-in-None g t c = record {
       let mode = mode_of c.args.question.now.mode in
       let path = path_of c.args.question.now.path.now in
       let plan = plan_none g.K.Validate.shape c.args.engine.now.nodes.now c.args.node.0 (node_of c.node.result.now) c.node.ensures.found (ap (option_map plan_of) c.in-None.is) in
-      meets_by_plan g.K.Validate.words g.K.Validate.is_whole ns (length c.args.engine.now.nodes.now) w mode path p busy s c.args.node.0 _ _ node_always plan (λ texts root depth reads l. refl);
+      meets_by_plan g.K.Validate.words g.K.Validate.is_whole ns (length c.args.engine.now.nodes.now) w mode path p busy s c.args.node.0 _ _ g.met.K.Validate.never_told node_always plan (λ texts root depth reads l. refl);
   stays = search rules;
   remembers = search rules;
 }
@@ -847,7 +848,7 @@ verdict::verdict_plan-returns-in-Always g t c = record {
       let mode = mode_of c.args.question.now.mode in
       let path = path_of c.args.question.now.path.now in
       let plan = plan_is g.K.Validate.shape c.args.engine.now.nodes.now c.args.node.0 (node_of c.node.result.now) _ c.node.ensures.found (ap (option_map plan_of) c.in-Some.is ∙ ap (λ f. Some (plan_of f)) c.in-Always.is) in
-      node_by_plan g.K.Validate.words g.K.Validate.is_whole ns (length c.args.engine.now.nodes.now) w mode path p busy s c.args.node.0 (told.Truth true) node_always plan (λ x reads l. verdict_replies mode c.requires.asked.verdict x true _ refl);
+      node_by_plan g.K.Validate.words g.K.Validate.is_whole ns (length c.args.engine.now.nodes.now) w mode path p busy s c.args.node.0 (told.Truth true) g.met.K.Validate.never_told node_always plan (λ x reads l. verdict_replies mode c.requires.asked.verdict x true _ refl);
   meets =
       let ns = numbered g.K.Validate.shape c.args.engine.now.nodes.now in
       let w = settling (g.M.Matcher.matching c.args.engine.now.matcher.now) c.args.context.now.remembered.assumptions in
@@ -857,7 +858,7 @@ verdict::verdict_plan-returns-in-Always g t c = record {
       let mode = mode_of c.args.question.now.mode in
       let path = path_of c.args.question.now.path.now in
       let plan = plan_is g.K.Validate.shape c.args.engine.now.nodes.now c.args.node.0 (node_of c.node.result.now) _ c.node.ensures.found (ap (option_map plan_of) c.in-Some.is ∙ ap (λ f. Some (plan_of f)) c.in-Always.is) in
-      meets_by_plan g.K.Validate.words g.K.Validate.is_whole ns (length c.args.engine.now.nodes.now) w mode path p busy s c.args.node.0 _ _ node_always plan (λ texts root depth reads l. refl);
+      meets_by_plan g.K.Validate.words g.K.Validate.is_whole ns (length c.args.engine.now.nodes.now) w mode path p busy s c.args.node.0 _ _ g.met.K.Validate.never_told node_always plan (λ texts root depth reads l. refl);
   stays = search rules;
   remembers = search rules;
 }
@@ -879,7 +880,7 @@ verdict::verdict_plan-returns-in-Never g t c = record {
       let mode = mode_of c.args.question.now.mode in
       let path = path_of c.args.question.now.path.now in
       let plan = plan_is g.K.Validate.shape c.args.engine.now.nodes.now c.args.node.0 (node_of c.node.result.now) _ c.node.ensures.found (ap (option_map plan_of) c.in-Some.is ∙ ap (λ f. Some (plan_of f)) c.in-Never.is) in
-      node_by_plan g.K.Validate.words g.K.Validate.is_whole ns (length c.args.engine.now.nodes.now) w mode path p busy s c.args.node.0 (told.Truth false) node_never plan (λ x reads l. verdict_replies mode c.requires.asked.verdict x false _ refl);
+      node_by_plan g.K.Validate.words g.K.Validate.is_whole ns (length c.args.engine.now.nodes.now) w mode path p busy s c.args.node.0 (told.Truth false) g.met.K.Validate.never_told node_never plan (λ x reads l. verdict_replies mode c.requires.asked.verdict x false _ refl);
   meets =
       let ns = numbered g.K.Validate.shape c.args.engine.now.nodes.now in
       let w = settling (g.M.Matcher.matching c.args.engine.now.matcher.now) c.args.context.now.remembered.assumptions in
@@ -889,7 +890,7 @@ verdict::verdict_plan-returns-in-Never g t c = record {
       let mode = mode_of c.args.question.now.mode in
       let path = path_of c.args.question.now.path.now in
       let plan = plan_is g.K.Validate.shape c.args.engine.now.nodes.now c.args.node.0 (node_of c.node.result.now) _ c.node.ensures.found (ap (option_map plan_of) c.in-Some.is ∙ ap (λ f. Some (plan_of f)) c.in-Never.is) in
-      meets_by_plan g.K.Validate.words g.K.Validate.is_whole ns (length c.args.engine.now.nodes.now) w mode path p busy s c.args.node.0 _ _ node_never plan (λ texts root depth reads l. refl);
+      meets_by_plan g.K.Validate.words g.K.Validate.is_whole ns (length c.args.engine.now.nodes.now) w mode path p busy s c.args.node.0 _ _ g.met.K.Validate.never_told node_never plan (λ texts root depth reads l. refl);
   stays = search rules;
   remembers = search rules;
 }
@@ -906,7 +907,7 @@ verdict::verdict_plan-returns-in-Keywords g t c = record {
       let ns = numbered g.K.Validate.shape c.args.engine.now.nodes.now in
       let p = steps_to c.args.question.now.place.now in
       let plan = plan_is g.K.Validate.shape c.args.engine.now.nodes.now c.args.node.0 (node_of c.node.result.now) _ c.node.ensures.found (ap (option_map plan_of) c.in-Some.is ∙ ap (λ f. Some (plan_of f)) c.in-Keywords.is) in
-      if_ok_mono c.verdict_entries.result _ _ (λ b says. node_by_plan g.K.Validate.words g.K.Validate.is_whole ns (length c.args.engine.now.nodes.now) (settling (g.M.Matcher.matching c.args.engine.now.matcher.now) c.args.context.now.remembered.assumptions) (mode_of c.args.question.now.mode) (path_of c.args.question.now.path.now) p (busy_at p c.args.context.now.in_progress) (subject_of c.args.question.now.instance) c.args.node.0 (told.Truth b) _ plan says)
+      if_ok_mono c.verdict_entries.result _ _ (λ b says. node_by_plan g.K.Validate.words g.K.Validate.is_whole ns (length c.args.engine.now.nodes.now) (settling (g.M.Matcher.matching c.args.engine.now.matcher.now) c.args.context.now.remembered.assumptions) (mode_of c.args.question.now.mode) (path_of c.args.question.now.path.now) p (busy_at p c.args.context.now.in_progress) (subject_of c.args.question.now.instance) c.args.node.0 (told.Truth b) g.met.K.Validate.never_told _ plan says)
       (rw c.as_slice.ensures.value at c.verdict_entries.ensures.says);
   meets =
       let ns = numbered g.K.Validate.shape c.args.engine.now.nodes.now in
@@ -915,7 +916,7 @@ verdict::verdict_plan-returns-in-Keywords g t c = record {
       let s = subject_of c.args.question.now.instance in
       let busy = busy_at p c.args.context.now.in_progress in
       let plan = plan_is g.K.Validate.shape c.args.engine.now.nodes.now c.args.node.0 (node_of c.node.result.now) _ c.node.ensures.found (ap (option_map plan_of) c.in-Some.is ∙ ap (λ f. Some (plan_of f)) c.in-Keywords.is) in
-      if_ok_mono c.verdict_entries.result _ _ (λ b met. meets_these g.K.Validate.words g.K.Validate.is_whole ns (length c.args.engine.now.nodes.now) w (mode_of c.args.question.now.mode) (path_of c.args.question.now.path.now) p busy s c.args.node.0 _ _ _ plan met) (rw c.as_slice.ensures.value at c.verdict_entries.ensures.meets);
+      if_ok_mono c.verdict_entries.result _ _ (λ b met. meets_these g.K.Validate.words g.K.Validate.is_whole ns (length c.args.engine.now.nodes.now) w (mode_of c.args.question.now.mode) (path_of c.args.question.now.path.now) p busy s c.args.node.0 _ _ g.met.K.Validate.never_told _ plan met) (rw c.as_slice.ensures.value at c.verdict_entries.ensures.meets);
   stays = search rules;
   remembers =
       let plan = plan_is g.K.Validate.shape c.args.engine.now.nodes.now c.args.node.0 (node_of c.node.result.now) _ c.node.ensures.found (ap (option_map plan_of) c.in-Some.is ∙ ap (λ f. Some (plan_of f)) c.in-Keywords.is) in
@@ -972,7 +973,7 @@ verdict::verdict_entries-loop-entry-preserved g t c = record {
       let so_far = c.loop-entry.invariant.so_far (reading w texts root depth) reads l in
       let met = c.loop-entry.invariant.met texts root depth reads l in
       let split = ap (λ es. plan_met mode (looked es)) (drop_at c.args.entries.now c.loop-entry.entry-index c.entry-item.result c.loop-entry-test.true c.entry-item.is) in
-      let agrees = agrees_says g.K.Validate.words ns (λ texts m s completion matcher a h. (g.met.K.Validate.function_laws texts m).agree s (matching matcher completion) a h) (reading w texts root depth) c.args.node.0 (path_of c.args.question.now.path.now) p busy part.name part.form in
+      let agrees = agrees_says g.K.Validate.words ns (λ texts m s matches a h. (g.met.K.Validate.function_laws texts m).agree s matches a h) (reading w texts root depth) c.args.node.0 (path_of c.args.question.now.path.now) p busy part.name part.form in
       let last = stops_at g.K.Validate.words ns w texts root depth mode c.args.node.0 (path_of c.args.question.now.path.now) p busy part (told.Truth true) (told.Truth true) (told.Truth true) so_far.0 _ agrees so_far.1 says (joins_verdict true) refl refl in
       next_met w.matcher mode (part_looked g.K.Validate.words ns w texts root depth c.args.node.0 (path_of c.args.question.now.path.now) p busy part) (looked (drop (c.loop-entry.entry-index + 1) c.args.entries.now)) _ _ met.0 _ _ _ met.1 here met.2 split last;
   so_far = λ x reads l.
@@ -1014,7 +1015,7 @@ verdict::verdict_entries-returns-then-not-valid g t c = record {
       let so_far = c.loop-entry.invariant.so_far (reading w texts root depth) reads l in
       let met = c.loop-entry.invariant.met texts root depth reads l in
       let split = ap (λ es. plan_met mode (looked es)) (drop_at c.args.entries.now c.loop-entry.entry-index c.entry-item.result c.loop-entry-test.true c.entry-item.is) in
-      let agrees = agrees_says g.K.Validate.words ns (λ texts m s completion matcher a h. (g.met.K.Validate.function_laws texts m).agree s (matching matcher completion) a h) (reading w texts root depth) c.args.node.0 (path_of c.args.question.now.path.now) p busy part.name part.form in
+      let agrees = agrees_says g.K.Validate.words ns (λ texts m s matches a h. (g.met.K.Validate.function_laws texts m).agree s matches a h) (reading w texts root depth) c.args.node.0 (path_of c.args.question.now.path.now) p busy part.name part.form in
       let last = stops_at g.K.Validate.words ns w texts root depth mode c.args.node.0 (path_of c.args.question.now.path.now) p busy part (told.Truth true) (told.Truth false) (told.Truth false) so_far.0 _ agrees so_far.1 says (joins_verdict false) refl refl in
       last_met w.matcher mode (part_looked g.K.Validate.words ns w texts root depth c.args.node.0 (path_of c.args.question.now.path.now) p busy part) (looked (drop (c.loop-entry.entry-index + 1) c.args.entries.now)) _ _ met.0 _ _ _ met.1 here met.2 split last;
   stays = λ layout laid right. c.in_ok-valid.ensures.stays layout laid (c.loop-entry.invariant.stays layout laid right);
@@ -1437,7 +1438,7 @@ verdict_turns::take_turns-turns-init g t c =
       counted = as_many c.args.context.now.visits c.args.context.now.visits refl;
       worked = spends_none c.args.context.now.work;
       leads = λ x reads l. begins_on (g.K.Validate.words x.texts) m (g.K.Validate.absorbed m) (g.K.Validate.remaining m) (g.K.Validate.can_be x.texts m) (g.K.Validate.ends x.texts m) (g.K.Validate.fits x.texts m) (g.met.K.Validate.turn_laws x.texts m) s x (mode_of c.args.question.now.mode) (child_says g.K.Validate.words ns x (path_of c.args.question.now.path.now) p busy es) (child_unit g.K.Validate.words ns x (path_of c.args.question.now.path.now) p busy es) (same_edge es) c.args.context.now.marking (c.args.run.now, answer_of x.texts c.args.answer.now) c.requires.no_marks
-          (agrees_answers g.K.Validate.words ns (λ texts m s completion matcher a h. (g.met.K.Validate.function_laws texts m).agree s (matching matcher completion) a h) x (path_of c.args.question.now.path.now) p busy es)
+          (agrees_answers g.K.Validate.words ns (λ texts m s matches a h. (g.met.K.Validate.function_laws texts m).agree s matches a h) x (path_of c.args.question.now.path.now) p busy es)
           (child_valid g.K.Validate.words g.K.Validate.absorbed (λ texts m. keeps_of_turns (g.K.Validate.words texts) m (g.K.Validate.absorbed m) (g.K.Validate.remaining m) (g.K.Validate.can_be texts m) (g.K.Validate.ends texts m) (g.K.Validate.fits texts m) (g.met.K.Validate.turn_laws texts m) (g.met.K.Validate.function_laws texts m)) ns x (path_of c.args.question.now.path.now) p busy es)
           (asked_alike (g.K.Validate.words x.texts) x.matcher ns (subject_in x.root) x.completion x.depth (path_of c.args.question.now.path.now) p busy es)
           (c.requires.begun x.texts);
@@ -1505,7 +1506,7 @@ verdict_turns::take_turns-returns-in-Done g t c = record {
       let turn = turned false (tells_nothing (g.K.Validate.is_whole m) s) in
       let tells = tells_keyword g.K.Validate.is_whole ns (length c.args.engine.now.nodes.now) w p s (reading w texts root depth) c.args.node.0 m es c.requires.asked.may.known reads c.requires.asked.stands in
       let all = meets_all (g.K.Validate.words texts) w.matcher w.assumptions (node_at (g.K.Validate.words texts) w.matcher ns (subject_in root) c.args.node.0 (path_of c.args.question.now.path.now) p) s (child_run g.K.Validate.words ns w texts root depth (path_of c.args.question.now.path.now) p busy es) (same_edge es) name m (g.K.Validate.remaining m s) _ _ c.turns.context.remembered c.turns.context.marking (c.turns.run, answer_of texts c.turns.answer) (told_reply c.turns.told) (rw c.in-Done.is at (stepped texts tells)) (c.turns.invariant.met texts root depth reads l) in
-      meets_same w.matcher _ _ _ _ (ap (λ v. keyword_met (g.K.Validate.words texts) w.matcher w.assumptions (node_at (g.K.Validate.words texts) w.matcher ns (subject_in root) c.args.node.0 (path_of c.args.question.now.path.now) p) v (child_run g.K.Validate.words ns w texts root depth (path_of c.args.question.now.path.now) p busy es) (same_edge es) name m (mode_of c.args.question.now.mode)) (sym (stands_in root p s reads.stands))) all;
+      meets_same w.matcher _ _ _ _ (ap (λ v. keyword_met (g.K.Validate.words texts) w.matcher w.assumptions (node_at (g.K.Validate.words texts) w.matcher ns (subject_in root) c.args.node.0 (path_of c.args.question.now.path.now) p) v (child_run g.K.Validate.words ns w texts root depth (path_of c.args.question.now.path.now) p busy es) spans_nothing (same_edge es) name m (mode_of c.args.question.now.mode)) (sym (stands_in root p s reads.stands))) all;
   stays = search rules;
 }
 

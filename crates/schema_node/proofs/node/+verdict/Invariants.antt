@@ -1,7 +1,7 @@
 use Rattle.std.proofs.Common.{◌≡◌, ◌≤◌, ◌<◌, ◌+◌, ◌*◌, ◌++◌, ℕ, Bool, List, false, true, length, map, drop, option_map}
 use Rattle.serde_json.specs.Data.{Data}
 use Rattle.schema_reports.specs.InstanceViews.{subject_of}
-use Rattle.theory_definitions.specs.Reports.{Outcome}
+use Rattle.theory_definitions.specs.Reports.{Outcome, spans_nothing}
 use Rattle.theory_definitions.specs.Meaning.{both}
 use Rattle.theory_meaning.specs.Numbered.{left, subject_in}
 use Rattle.theory_definitions.specs.Guarded.{node_at, same_edge}
@@ -199,7 +199,7 @@ invariant-verdict_turns::take_turns-turns g l =
           (child_says g.K.Validate.words ns x (path_of l.question.path.now) (steps_to l.question.place.now) busy es) (child_unit g.K.Validate.words ns x (path_of l.question.path.now) (steps_to l.question.place.now) busy es) (same_edge es) l.context.marking (l.run, answer_of x.texts l.answer) (told_reply l.told);
       met : (texts : Bool) (root : Data) (depth : ℕ) → Reads g.K.Validate.is_whole ns (length l.engine.nodes.now) w (steps_to l.question.place.now) s (reading w texts root depth) → left ns (length l.engine.nodes.now) l.node.0 s busy ≤ depth
           → MeetsSoFar (g.K.Validate.words texts) w.matcher w.assumptions (node_at (g.K.Validate.words texts) w.matcher ns (subject_in root) l.node.0 (path_of l.question.path.now) (steps_to l.question.place.now)) s (child_run g.K.Validate.words ns w texts root depth (path_of l.question.path.now) (steps_to l.question.place.now) busy es) (same_edge es) l.keyword.name.now m (g.K.Validate.remaining m s) l.initial.context.remembered
-          (keyword_met (g.K.Validate.words texts) w.matcher w.assumptions (node_at (g.K.Validate.words texts) w.matcher ns (subject_in root) l.node.0 (path_of l.question.path.now) (steps_to l.question.place.now)) s (child_run g.K.Validate.words ns w texts root depth (path_of l.question.path.now) (steps_to l.question.place.now) busy es) (same_edge es) l.keyword.name.now m (mode_of l.fn.question.mode))
+          (keyword_met (g.K.Validate.words texts) w.matcher w.assumptions (node_at (g.K.Validate.words texts) w.matcher ns (subject_in root) l.node.0 (path_of l.question.path.now) (steps_to l.question.place.now)) s (child_run g.K.Validate.words ns w texts root depth (path_of l.question.path.now) (steps_to l.question.place.now) busy es) spans_nothing (same_edge es) l.keyword.name.now m (mode_of l.fn.question.mode))
           l.context.remembered l.context.marking (l.run, answer_of texts l.answer) (told_reply l.told);
     }
 

@@ -1,7 +1,7 @@
 use Rattle.std.proofs.Common.{◌≡◌, ◌∙◌, ◌+◌, ◌*◌, ◌<◌, ◌≤◌, ◌||◌, not, ℕ, Bool, suc, zero, arith, sym, refl, rules, ap, ap₂, subst, drop, map, option_map, string_bytes, length, Some, None, false, true, List, [], ◌∷◌, ◌++◌}
 use Rattle.serde_json.specs.View.{view}
 use Rattle.theory_definitions.specs.Keywords.{down, here, Answer, Question, ask, done, ecma, mark, match_text, no_reply, truth, unmark}
-use Rattle.theory_definitions.specs.Laws.{EachKeeps}
+use Rattle.theory_fixed_points.specs.NodesSay.{KeepsUntold}
 use Rattle.theory_definitions.specs.Instance.{after_step}
 use Rattle.theory_definitions.specs.Guarded.{node_keyword}
 use Rattle.std.proofs.lemmas.Bool.{or_left, or_right}
@@ -352,7 +352,7 @@ entries::solve_form-returns-in-Some g t c = rw c.settled.ensures.told (record {
       let p = steps_to c.args.question.now.place.now in
       let s = subject_of c.args.question.now.instance in
       let old = c.args.context.now in
-      let laws : (texts : Bool) → EachKeeps (g.K.Validate.words texts) = λ texts m. (g.K.Validate.absorbed m, keeps_of_turns (g.K.Validate.words texts) m (g.K.Validate.absorbed m) (g.K.Validate.remaining m) (g.K.Validate.can_be texts m) (g.K.Validate.ends texts m) (g.K.Validate.fits texts m) (g.met.K.Validate.turn_laws texts m) (g.met.K.Validate.function_laws texts m)) in
+      let laws : (texts : Bool) → KeepsUntold (g.K.Validate.words texts) = λ texts. record { laws = λ m. (g.K.Validate.absorbed m, keeps_of_turns (g.K.Validate.words texts) m (g.K.Validate.absorbed m) (g.K.Validate.remaining m) (g.K.Validate.can_be texts m) (g.K.Validate.ends texts m) (g.K.Validate.fits texts m) (g.met.K.Validate.turn_laws texts m) (g.met.K.Validate.function_laws texts m)); never = g.met.K.Validate.never_told texts } in
       let m = g.K.Validate.shape c.in-Keyword.keyword in
       let es = map (option_map edge_of) c.in-Keyword.field-1.items in
       let form = rw c.in-Keyword.is at c.requires.stands in
@@ -422,7 +422,7 @@ entries::solve_node-returns-in-Keywords g t c = record {
       let p = steps_to c.args.question.now.place.now in
       let s = subject_of c.args.question.now.instance in
       let old = c.args.context.now in
-      let laws : (texts : Bool) → EachKeeps (g.K.Validate.words texts) = λ texts m. (g.K.Validate.absorbed m, keeps_of_turns (g.K.Validate.words texts) m (g.K.Validate.absorbed m) (g.K.Validate.remaining m) (g.K.Validate.can_be texts m) (g.K.Validate.ends texts m) (g.K.Validate.fits texts m) (g.met.K.Validate.turn_laws texts m) (g.met.K.Validate.function_laws texts m)) in
+      let laws : (texts : Bool) → KeepsUntold (g.K.Validate.words texts) = λ texts. record { laws = λ m. (g.K.Validate.absorbed m, keeps_of_turns (g.K.Validate.words texts) m (g.K.Validate.absorbed m) (g.K.Validate.remaining m) (g.K.Validate.can_be texts m) (g.K.Validate.ends texts m) (g.K.Validate.fits texts m) (g.met.K.Validate.turn_laws texts m) (g.met.K.Validate.function_laws texts m)); never = g.met.K.Validate.never_told texts } in
       let plan = plan_is g.K.Validate.shape c.args.engine.now.nodes.now c.args.node.0 (node_of c.node.result.now) _ c.node.ensures.found (ap (option_map plan_of) c.in-Some.is ∙ ap (λ f. Some (plan_of f)) c.in-Keywords.is) in
       let new = c.solve_entries.new.context in
       if_ok_mono c.solve_entries.result _ _ (λ b says texts tells. node_says_parts (solving_in set (view new.root) texts) (found_of new) p (solvable_here set laws old s p c.args.node.0 c.requires.can_ask.may (view new.root) texts) c.args.node.0 c.requires.can_ask.may.known _ b.valid b.leans plan (says texts tells))
@@ -609,7 +609,7 @@ turns::solver_turns-turns-init g t c =
     let s = subject_of c.args.question.now.instance in
     let m = g.K.Validate.shape c.args.keyword.now.keyword.now in
     let es = map (option_map edge_of) c.args.keyword.now.children.now in
-    let keeps : (texts : Bool) → EachKeeps (g.K.Validate.words texts) = (λ texts k. (g.K.Validate.absorbed k, keeps_of_turns (g.K.Validate.words texts) k (g.K.Validate.absorbed k) (g.K.Validate.remaining k) (g.K.Validate.can_be texts k) (g.K.Validate.ends texts k) (g.K.Validate.fits texts k) (g.met.K.Validate.turn_laws texts k) (g.met.K.Validate.function_laws texts k))) in
+    let keeps : (texts : Bool) → KeepsUntold (g.K.Validate.words texts) = λ texts. record { laws = λ k. (g.K.Validate.absorbed k, keeps_of_turns (g.K.Validate.words texts) k (g.K.Validate.absorbed k) (g.K.Validate.remaining k) (g.K.Validate.can_be texts k) (g.K.Validate.ends texts k) (g.K.Validate.fits texts k) (g.met.K.Validate.turn_laws texts k) (g.met.K.Validate.function_laws texts k)); never = g.met.K.Validate.never_told texts } in
     record {
       goes = goes_none set p c.args.context.now c.requires.may_ask.may.sound;
       can = can_begun set m (g.K.Validate.absorbed m) (g.K.Validate.remaining m) (λ texts. g.K.Validate.can_be texts m) (λ texts. g.K.Validate.ends texts m) (λ texts. g.K.Validate.fits texts m) (λ texts. g.met.K.Validate.turn_laws texts m) s (c.args.run.now, answer_of false c.args.answer.now) (c.requires.begun false);
@@ -649,7 +649,7 @@ turns::solver_turns-returns-in-Done g t c = record {
       let s = subject_of c.args.question.now.instance in
       let m = g.K.Validate.shape c.args.keyword.now.keyword.now in
       let es = map (option_map edge_of) c.args.keyword.now.children.now in
-      let keeps : (texts : Bool) → EachKeeps (g.K.Validate.words texts) = (λ texts k. (g.K.Validate.absorbed k, keeps_of_turns (g.K.Validate.words texts) k (g.K.Validate.absorbed k) (g.K.Validate.remaining k) (g.K.Validate.can_be texts k) (g.K.Validate.ends texts k) (g.K.Validate.fits texts k) (g.met.K.Validate.turn_laws texts k) (g.met.K.Validate.function_laws texts k))) in
+      let keeps : (texts : Bool) → KeepsUntold (g.K.Validate.words texts) = λ texts. record { laws = λ k. (g.K.Validate.absorbed k, keeps_of_turns (g.K.Validate.words texts) k (g.K.Validate.absorbed k) (g.K.Validate.remaining k) (g.K.Validate.can_be texts k) (g.K.Validate.ends texts k) (g.K.Validate.fits texts k) (g.met.K.Validate.turn_laws texts k) (g.met.K.Validate.function_laws texts k)); never = g.met.K.Validate.never_told texts } in
       let turned = turned_by set s m (λ texts. (c.turns.run, answer_of texts c.turns.answer)) (λ texts. (c.turn.new.run, answer_of texts c.turn.new.answer)) (λ texts. reply_of texts c.reply_with-reply.result) (λ texts. told_reply c.turns.told) c.reply_with-reply.ensures.told c.in_ok-step.ensures.turns in
       let stepped = stepped_by set s m (λ texts. (c.turns.run, answer_of texts c.turns.answer)) (λ texts. reply_of texts c.reply_with-reply.result) (λ texts. told_reply c.turns.told) (turn_of c.in_ok-step.step) (done) c.reply_with-reply.ensures.told (ap turn_of c.in-Done.is) c.in_ok-step.ensures.steps in
       leads_ended set m (g.K.Validate.absorbed m) (g.K.Validate.remaining m) (λ texts. g.K.Validate.can_be texts m) (λ texts. g.K.Validate.ends texts m) (λ texts. g.K.Validate.fits texts m) (λ texts. g.met.K.Validate.turn_laws texts m) s keeps c.args.context.now p c.args.node.0 c.requires.may_ask.may es c.requires.may_ask.stands c.turns.context c.turns.invariant.goes.root c.turns.invariant.goes.sound c.turns.leans c.turns.context.marking (λ texts. (c.turns.run, answer_of texts c.turns.answer)) (λ texts. (c.turn.new.run, answer_of texts c.turn.new.answer)) (λ texts. told_reply c.turns.told)
@@ -678,7 +678,7 @@ turns::solver_turns-turns-preserved-in-Ask g t c =
     let s = subject_of c.args.question.now.instance in
     let m = g.K.Validate.shape c.args.keyword.now.keyword.now in
     let es = map (option_map edge_of) c.args.keyword.now.children.now in
-    let keeps : (texts : Bool) → EachKeeps (g.K.Validate.words texts) = (λ texts k. (g.K.Validate.absorbed k, keeps_of_turns (g.K.Validate.words texts) k (g.K.Validate.absorbed k) (g.K.Validate.remaining k) (g.K.Validate.can_be texts k) (g.K.Validate.ends texts k) (g.K.Validate.fits texts k) (g.met.K.Validate.turn_laws texts k) (g.met.K.Validate.function_laws texts k))) in
+    let keeps : (texts : Bool) → KeepsUntold (g.K.Validate.words texts) = λ texts. record { laws = λ k. (g.K.Validate.absorbed k, keeps_of_turns (g.K.Validate.words texts) k (g.K.Validate.absorbed k) (g.K.Validate.remaining k) (g.K.Validate.can_be texts k) (g.K.Validate.ends texts k) (g.K.Validate.fits texts k) (g.met.K.Validate.turn_laws texts k) (g.met.K.Validate.function_laws texts k)); never = g.met.K.Validate.never_told texts } in
     let told = told_reply c.turns.told in
     let turned = turned_by set s m (λ texts. (c.turns.run, answer_of texts c.turns.answer)) (λ texts. (c.turn.new.run, answer_of texts c.turn.new.answer)) (λ texts. reply_of texts c.reply_with-reply.result) (λ texts. told_reply c.turns.told) c.reply_with-reply.ensures.told c.in_ok-step.ensures.turns in
     let turn = turned false (tells_nothing (g.K.Validate.is_whole m) s) in
@@ -718,7 +718,7 @@ turns::solver_turns-turns-preserved-in-Match g t c =
     let s = subject_of c.args.question.now.instance in
     let m = g.K.Validate.shape c.args.keyword.now.keyword.now in
     let es = map (option_map edge_of) c.args.keyword.now.children.now in
-    let keeps : (texts : Bool) → EachKeeps (g.K.Validate.words texts) = (λ texts k. (g.K.Validate.absorbed k, keeps_of_turns (g.K.Validate.words texts) k (g.K.Validate.absorbed k) (g.K.Validate.remaining k) (g.K.Validate.can_be texts k) (g.K.Validate.ends texts k) (g.K.Validate.fits texts k) (g.met.K.Validate.turn_laws texts k) (g.met.K.Validate.function_laws texts k))) in
+    let keeps : (texts : Bool) → KeepsUntold (g.K.Validate.words texts) = λ texts. record { laws = λ k. (g.K.Validate.absorbed k, keeps_of_turns (g.K.Validate.words texts) k (g.K.Validate.absorbed k) (g.K.Validate.remaining k) (g.K.Validate.can_be texts k) (g.K.Validate.ends texts k) (g.K.Validate.fits texts k) (g.met.K.Validate.turn_laws texts k) (g.met.K.Validate.function_laws texts k)); never = g.met.K.Validate.never_told texts } in
     let told = told_reply c.turns.told in
     let turned = turned_by set s m (λ texts. (c.turns.run, answer_of texts c.turns.answer)) (λ texts. (c.turn.new.run, answer_of texts c.turn.new.answer)) (λ texts. reply_of texts c.reply_with-reply.result) (λ texts. told_reply c.turns.told) c.reply_with-reply.ensures.told c.in_ok-step.ensures.turns in
     let turn = turned false (tells_nothing (g.K.Validate.is_whole m) s) in
@@ -756,7 +756,7 @@ turns::solver_turns-turns-preserved-in-MatchAt g t c =
     let s = subject_of c.args.question.now.instance in
     let m = g.K.Validate.shape c.args.keyword.now.keyword.now in
     let es = map (option_map edge_of) c.args.keyword.now.children.now in
-    let keeps : (texts : Bool) → EachKeeps (g.K.Validate.words texts) = (λ texts k. (g.K.Validate.absorbed k, keeps_of_turns (g.K.Validate.words texts) k (g.K.Validate.absorbed k) (g.K.Validate.remaining k) (g.K.Validate.can_be texts k) (g.K.Validate.ends texts k) (g.K.Validate.fits texts k) (g.met.K.Validate.turn_laws texts k) (g.met.K.Validate.function_laws texts k))) in
+    let keeps : (texts : Bool) → KeepsUntold (g.K.Validate.words texts) = λ texts. record { laws = λ k. (g.K.Validate.absorbed k, keeps_of_turns (g.K.Validate.words texts) k (g.K.Validate.absorbed k) (g.K.Validate.remaining k) (g.K.Validate.can_be texts k) (g.K.Validate.ends texts k) (g.K.Validate.fits texts k) (g.met.K.Validate.turn_laws texts k) (g.met.K.Validate.function_laws texts k)); never = g.met.K.Validate.never_told texts } in
     let told = told_reply c.turns.told in
     let turned = turned_by set s m (λ texts. (c.turns.run, answer_of texts c.turns.answer)) (λ texts. (c.turn.new.run, answer_of texts c.turn.new.answer)) (λ texts. reply_of texts c.reply_with-reply.result) (λ texts. told_reply c.turns.told) c.reply_with-reply.ensures.told c.in_ok-step.ensures.turns in
     let turn = turned false (tells_nothing (g.K.Validate.is_whole m) s) in
@@ -794,7 +794,7 @@ turns::solver_turns-turns-preserved-in-Ecma g t c =
     let s = subject_of c.args.question.now.instance in
     let m = g.K.Validate.shape c.args.keyword.now.keyword.now in
     let es = map (option_map edge_of) c.args.keyword.now.children.now in
-    let keeps : (texts : Bool) → EachKeeps (g.K.Validate.words texts) = (λ texts k. (g.K.Validate.absorbed k, keeps_of_turns (g.K.Validate.words texts) k (g.K.Validate.absorbed k) (g.K.Validate.remaining k) (g.K.Validate.can_be texts k) (g.K.Validate.ends texts k) (g.K.Validate.fits texts k) (g.met.K.Validate.turn_laws texts k) (g.met.K.Validate.function_laws texts k))) in
+    let keeps : (texts : Bool) → KeepsUntold (g.K.Validate.words texts) = λ texts. record { laws = λ k. (g.K.Validate.absorbed k, keeps_of_turns (g.K.Validate.words texts) k (g.K.Validate.absorbed k) (g.K.Validate.remaining k) (g.K.Validate.can_be texts k) (g.K.Validate.ends texts k) (g.K.Validate.fits texts k) (g.met.K.Validate.turn_laws texts k) (g.met.K.Validate.function_laws texts k)); never = g.met.K.Validate.never_told texts } in
     let told = told_reply c.turns.told in
     let turned = turned_by set s m (λ texts. (c.turns.run, answer_of texts c.turns.answer)) (λ texts. (c.turn.new.run, answer_of texts c.turn.new.answer)) (λ texts. reply_of texts c.reply_with-reply.result) (λ texts. told_reply c.turns.told) c.reply_with-reply.ensures.told c.in_ok-step.ensures.turns in
     let turn = turned false (tells_nothing (g.K.Validate.is_whole m) s) in
@@ -830,7 +830,7 @@ turns::solver_turns-turns-preserved-in-Mark g t c =
     let s = subject_of c.args.question.now.instance in
     let m = g.K.Validate.shape c.args.keyword.now.keyword.now in
     let es = map (option_map edge_of) c.args.keyword.now.children.now in
-    let keeps : (texts : Bool) → EachKeeps (g.K.Validate.words texts) = (λ texts k. (g.K.Validate.absorbed k, keeps_of_turns (g.K.Validate.words texts) k (g.K.Validate.absorbed k) (g.K.Validate.remaining k) (g.K.Validate.can_be texts k) (g.K.Validate.ends texts k) (g.K.Validate.fits texts k) (g.met.K.Validate.turn_laws texts k) (g.met.K.Validate.function_laws texts k))) in
+    let keeps : (texts : Bool) → KeepsUntold (g.K.Validate.words texts) = λ texts. record { laws = λ k. (g.K.Validate.absorbed k, keeps_of_turns (g.K.Validate.words texts) k (g.K.Validate.absorbed k) (g.K.Validate.remaining k) (g.K.Validate.can_be texts k) (g.K.Validate.ends texts k) (g.K.Validate.fits texts k) (g.met.K.Validate.turn_laws texts k) (g.met.K.Validate.function_laws texts k)); never = g.met.K.Validate.never_told texts } in
     let told = told_reply c.turns.told in
     let turned = turned_by set s m (λ texts. (c.turns.run, answer_of texts c.turns.answer)) (λ texts. (c.turn.new.run, answer_of texts c.turn.new.answer)) (λ texts. reply_of texts c.reply_with-reply.result) (λ texts. told_reply c.turns.told) c.reply_with-reply.ensures.told c.in_ok-step.ensures.turns in
     let turn = turned false (tells_nothing (g.K.Validate.is_whole m) s) in
@@ -868,7 +868,7 @@ turns::solver_turns-turns-preserved g t c =
     let s = subject_of c.args.question.now.instance in
     let m = g.K.Validate.shape c.args.keyword.now.keyword.now in
     let es = map (option_map edge_of) c.args.keyword.now.children.now in
-    let keeps : (texts : Bool) → EachKeeps (g.K.Validate.words texts) = (λ texts k. (g.K.Validate.absorbed k, keeps_of_turns (g.K.Validate.words texts) k (g.K.Validate.absorbed k) (g.K.Validate.remaining k) (g.K.Validate.can_be texts k) (g.K.Validate.ends texts k) (g.K.Validate.fits texts k) (g.met.K.Validate.turn_laws texts k) (g.met.K.Validate.function_laws texts k))) in
+    let keeps : (texts : Bool) → KeepsUntold (g.K.Validate.words texts) = λ texts. record { laws = λ k. (g.K.Validate.absorbed k, keeps_of_turns (g.K.Validate.words texts) k (g.K.Validate.absorbed k) (g.K.Validate.remaining k) (g.K.Validate.can_be texts k) (g.K.Validate.ends texts k) (g.K.Validate.fits texts k) (g.met.K.Validate.turn_laws texts k) (g.met.K.Validate.function_laws texts k)); never = g.met.K.Validate.never_told texts } in
     let told = told_reply c.turns.told in
     let turned = turned_by set s m (λ texts. (c.turns.run, answer_of texts c.turns.answer)) (λ texts. (c.turn.new.run, answer_of texts c.turn.new.answer)) (λ texts. reply_of texts c.reply_with-reply.result) (λ texts. told_reply c.turns.told) c.reply_with-reply.ensures.told c.in_ok-step.ensures.turns in
     let turn = turned false (tells_nothing (g.K.Validate.is_whole m) s) in
@@ -919,7 +919,7 @@ asking::solve_counted-returns-then-ends g t c =
     let p = steps_to c.args.question.now.place.now in
     let m = g.K.Validate.shape c.args.keyword.now in
     let es = map (option_map edge_of) c.args.children.now in
-    let laws : (texts : Bool) → EachKeeps (g.K.Validate.words texts) = λ texts m. (g.K.Validate.absorbed m, keeps_of_turns (g.K.Validate.words texts) m (g.K.Validate.absorbed m) (g.K.Validate.remaining m) (g.K.Validate.can_be texts m) (g.K.Validate.ends texts m) (g.K.Validate.fits texts m) (g.met.K.Validate.turn_laws texts m) (g.met.K.Validate.function_laws texts m)) in
+    let laws : (texts : Bool) → KeepsUntold (g.K.Validate.words texts) = λ texts. record { laws = λ m. (g.K.Validate.absorbed m, keeps_of_turns (g.K.Validate.words texts) m (g.K.Validate.absorbed m) (g.K.Validate.remaining m) (g.K.Validate.can_be texts m) (g.K.Validate.ends texts m) (g.K.Validate.fits texts m) (g.met.K.Validate.turn_laws texts m) (g.met.K.Validate.function_laws texts m)); never = g.met.K.Validate.never_told texts } in
     let here = c.loop-asked.context in
     let next = c.solve_there-told.new.context in
     let rest = c.next.new.self.left in
@@ -934,7 +934,7 @@ asking::solve_counted-loop-asked-preserved g t c =
     let p = steps_to c.args.question.now.place.now in
     let m = g.K.Validate.shape c.args.keyword.now in
     let es = map (option_map edge_of) c.args.children.now in
-    let laws : (texts : Bool) → EachKeeps (g.K.Validate.words texts) = λ texts m. (g.K.Validate.absorbed m, keeps_of_turns (g.K.Validate.words texts) m (g.K.Validate.absorbed m) (g.K.Validate.remaining m) (g.K.Validate.can_be texts m) (g.K.Validate.ends texts m) (g.K.Validate.fits texts m) (g.met.K.Validate.turn_laws texts m) (g.met.K.Validate.function_laws texts m)) in
+    let laws : (texts : Bool) → KeepsUntold (g.K.Validate.words texts) = λ texts. record { laws = λ m. (g.K.Validate.absorbed m, keeps_of_turns (g.K.Validate.words texts) m (g.K.Validate.absorbed m) (g.K.Validate.remaining m) (g.K.Validate.can_be texts m) (g.K.Validate.ends texts m) (g.K.Validate.fits texts m) (g.met.K.Validate.turn_laws texts m) (g.met.K.Validate.function_laws texts m)); never = g.met.K.Validate.never_told texts } in
     let here = c.loop-asked.context in
     let next = c.solve_there-told.new.context in
     let rest = c.next.new.self.left in
@@ -1004,7 +1004,7 @@ asking::solve_members-returns-then-ends g t c =
     let p = steps_to c.args.question.now.place.now in
     let m = g.K.Validate.shape c.args.keyword.now in
     let es = map (option_map edge_of) c.args.children.now.items in
-    let laws : (texts : Bool) → EachKeeps (g.K.Validate.words texts) = λ texts m. (g.K.Validate.absorbed m, keeps_of_turns (g.K.Validate.words texts) m (g.K.Validate.absorbed m) (g.K.Validate.remaining m) (g.K.Validate.can_be texts m) (g.K.Validate.ends texts m) (g.K.Validate.fits texts m) (g.met.K.Validate.turn_laws texts m) (g.met.K.Validate.function_laws texts m)) in
+    let laws : (texts : Bool) → KeepsUntold (g.K.Validate.words texts) = λ texts. record { laws = λ m. (g.K.Validate.absorbed m, keeps_of_turns (g.K.Validate.words texts) m (g.K.Validate.absorbed m) (g.K.Validate.remaining m) (g.K.Validate.can_be texts m) (g.K.Validate.ends texts m) (g.K.Validate.fits texts m) (g.met.K.Validate.turn_laws texts m) (g.met.K.Validate.function_laws texts m)); never = g.met.K.Validate.never_told texts } in
     let here = c.loop-asked.context in
     let next = c.solve_there-told.new.context in
     let rest = c.next.new.self.left in
@@ -1019,7 +1019,7 @@ asking::solve_members-loop-asked-preserved g t c =
     let p = steps_to c.args.question.now.place.now in
     let m = g.K.Validate.shape c.args.keyword.now in
     let es = map (option_map edge_of) c.args.children.now.items in
-    let laws : (texts : Bool) → EachKeeps (g.K.Validate.words texts) = λ texts m. (g.K.Validate.absorbed m, keeps_of_turns (g.K.Validate.words texts) m (g.K.Validate.absorbed m) (g.K.Validate.remaining m) (g.K.Validate.can_be texts m) (g.K.Validate.ends texts m) (g.K.Validate.fits texts m) (g.met.K.Validate.turn_laws texts m) (g.met.K.Validate.function_laws texts m)) in
+    let laws : (texts : Bool) → KeepsUntold (g.K.Validate.words texts) = λ texts. record { laws = λ m. (g.K.Validate.absorbed m, keeps_of_turns (g.K.Validate.words texts) m (g.K.Validate.absorbed m) (g.K.Validate.remaining m) (g.K.Validate.can_be texts m) (g.K.Validate.ends texts m) (g.K.Validate.fits texts m) (g.met.K.Validate.turn_laws texts m) (g.met.K.Validate.function_laws texts m)); never = g.met.K.Validate.never_told texts } in
     let here = c.loop-asked.context in
     let next = c.solve_there-told.new.context in
     let rest = c.next.new.self.left in
@@ -1089,7 +1089,7 @@ asking::solve_names-returns-then-ends g t c =
     let p = steps_to c.args.question.now.place.now in
     let m = g.K.Validate.shape c.args.keyword.now in
     let es = map (option_map edge_of) c.args.children.now in
-    let laws : (texts : Bool) → EachKeeps (g.K.Validate.words texts) = λ texts m. (g.K.Validate.absorbed m, keeps_of_turns (g.K.Validate.words texts) m (g.K.Validate.absorbed m) (g.K.Validate.remaining m) (g.K.Validate.can_be texts m) (g.K.Validate.ends texts m) (g.K.Validate.fits texts m) (g.met.K.Validate.turn_laws texts m) (g.met.K.Validate.function_laws texts m)) in
+    let laws : (texts : Bool) → KeepsUntold (g.K.Validate.words texts) = λ texts. record { laws = λ m. (g.K.Validate.absorbed m, keeps_of_turns (g.K.Validate.words texts) m (g.K.Validate.absorbed m) (g.K.Validate.remaining m) (g.K.Validate.can_be texts m) (g.K.Validate.ends texts m) (g.K.Validate.fits texts m) (g.met.K.Validate.turn_laws texts m) (g.met.K.Validate.function_laws texts m)); never = g.met.K.Validate.never_told texts } in
     let here = c.loop-asked.context in
     let next = c.solve_there-told.new.context in
     let rest = c.next.new.self.left in
@@ -1104,7 +1104,7 @@ asking::solve_names-loop-asked-preserved g t c =
     let p = steps_to c.args.question.now.place.now in
     let m = g.K.Validate.shape c.args.keyword.now in
     let es = map (option_map edge_of) c.args.children.now in
-    let laws : (texts : Bool) → EachKeeps (g.K.Validate.words texts) = λ texts m. (g.K.Validate.absorbed m, keeps_of_turns (g.K.Validate.words texts) m (g.K.Validate.absorbed m) (g.K.Validate.remaining m) (g.K.Validate.can_be texts m) (g.K.Validate.ends texts m) (g.K.Validate.fits texts m) (g.met.K.Validate.turn_laws texts m) (g.met.K.Validate.function_laws texts m)) in
+    let laws : (texts : Bool) → KeepsUntold (g.K.Validate.words texts) = λ texts. record { laws = λ m. (g.K.Validate.absorbed m, keeps_of_turns (g.K.Validate.words texts) m (g.K.Validate.absorbed m) (g.K.Validate.remaining m) (g.K.Validate.can_be texts m) (g.K.Validate.ends texts m) (g.K.Validate.fits texts m) (g.met.K.Validate.turn_laws texts m) (g.met.K.Validate.function_laws texts m)); never = g.met.K.Validate.never_told texts } in
     let here = c.loop-asked.context in
     let next = c.solve_there-told.new.context in
     let rest = c.next.new.self.left in
@@ -1150,7 +1150,7 @@ edges::begin_pair-solve_node_apart-requires g t c =
     let node : c.args.pair.now.node.0 ≡ c.args.node.0 = c.requires.node in
     let place = c.requires.place in
     let same : old ≡ old = refl in
-    let laws : (texts : Bool) → EachKeeps (g.K.Validate.words texts) = λ texts m. (g.K.Validate.absorbed m, keeps_of_turns (g.K.Validate.words texts) m (g.K.Validate.absorbed m) (g.K.Validate.remaining m) (g.K.Validate.can_be texts m) (g.K.Validate.ends texts m) (g.K.Validate.fits texts m) (g.met.K.Validate.turn_laws texts m) (g.met.K.Validate.function_laws texts m)) in
+    let laws : (texts : Bool) → KeepsUntold (g.K.Validate.words texts) = λ texts. record { laws = λ m. (g.K.Validate.absorbed m, keeps_of_turns (g.K.Validate.words texts) m (g.K.Validate.absorbed m) (g.K.Validate.remaining m) (g.K.Validate.can_be texts m) (g.K.Validate.ends texts m) (g.K.Validate.fits texts m) (g.met.K.Validate.turn_laws texts m) (g.met.K.Validate.function_laws texts m)); never = g.met.K.Validate.never_told texts } in
     let begins : Begins c.args.node.0 p old c.enter.new.context = at_pair (λ k z d. Begins k z d c.enter.new.context) node place same c.in-Ok.ensures.begins in
     let idle = at_pair (λ k z d. has_pair d.in_progress k z ≡ false) node place same c.requires.idle in
     let there : steps_to c.numbered_place-place.result ≡ p = c.numbered_place-place.ensures.same ∙ place in
@@ -1216,7 +1216,7 @@ edges::begin_pair-keep_answer-requires-clause-apart g t c =
     let node : c.args.pair.now.node.0 ≡ c.args.node.0 = c.requires.node in
     let place = c.requires.place in
     let same : old ≡ old = refl in
-    let laws : (texts : Bool) → EachKeeps (g.K.Validate.words texts) = λ texts m. (g.K.Validate.absorbed m, keeps_of_turns (g.K.Validate.words texts) m (g.K.Validate.absorbed m) (g.K.Validate.remaining m) (g.K.Validate.can_be texts m) (g.K.Validate.ends texts m) (g.K.Validate.fits texts m) (g.met.K.Validate.turn_laws texts m) (g.met.K.Validate.function_laws texts m)) in
+    let laws : (texts : Bool) → KeepsUntold (g.K.Validate.words texts) = λ texts. record { laws = λ m. (g.K.Validate.absorbed m, keeps_of_turns (g.K.Validate.words texts) m (g.K.Validate.absorbed m) (g.K.Validate.remaining m) (g.K.Validate.can_be texts m) (g.K.Validate.ends texts m) (g.K.Validate.fits texts m) (g.met.K.Validate.turn_laws texts m) (g.met.K.Validate.function_laws texts m)); never = g.met.K.Validate.never_told texts } in
     let solved = solved_at set g.K.Validate.says_monotone (steps_to c.numbered_place-place.result) c.enter.new.context c.solve_node_apart.new.context _ _ _ c.solve_node_apart.ensures (sym c.in-Ok-result.ensures.same) in
     let ran = pair_ran set old p c.args.node.0 c.args.pair.now.node.0 (place_of c.args.pair.now) (steps_to c.numbered_place-place.result) c.args.context.now c.enter.new.context c.solve_node_apart.new.context c.exit.new.context c.in-Ok.mark c.in-Ok-result.said
     node place same c.numbered_place-place.ensures.same c.requires.unknown c.requires.idle c.requires.free c.args.pair.now.number c.requires.numbered c.requires.own c.requires.may_ask.stands
@@ -1232,7 +1232,7 @@ edges::begin_pair-returns-in-Ok-keep_answer g t c =
     let node : c.args.pair.now.node.0 ≡ c.args.node.0 = c.requires.node in
     let place = c.requires.place in
     let same : old ≡ old = refl in
-    let laws : (texts : Bool) → EachKeeps (g.K.Validate.words texts) = λ texts m. (g.K.Validate.absorbed m, keeps_of_turns (g.K.Validate.words texts) m (g.K.Validate.absorbed m) (g.K.Validate.remaining m) (g.K.Validate.can_be texts m) (g.K.Validate.ends texts m) (g.K.Validate.fits texts m) (g.met.K.Validate.turn_laws texts m) (g.met.K.Validate.function_laws texts m)) in
+    let laws : (texts : Bool) → KeepsUntold (g.K.Validate.words texts) = λ texts. record { laws = λ m. (g.K.Validate.absorbed m, keeps_of_turns (g.K.Validate.words texts) m (g.K.Validate.absorbed m) (g.K.Validate.remaining m) (g.K.Validate.can_be texts m) (g.K.Validate.ends texts m) (g.K.Validate.fits texts m) (g.met.K.Validate.turn_laws texts m) (g.met.K.Validate.function_laws texts m)); never = g.met.K.Validate.never_told texts } in
     let solved = solved_at set g.K.Validate.says_monotone (steps_to c.numbered_place-place.result) c.enter.new.context c.solve_node_apart.new.context _ _ _ c.solve_node_apart.ensures (sym c.in-Ok-result.ensures.same) in
     let ran = pair_ran set old p c.args.node.0 c.args.pair.now.node.0 (place_of c.args.pair.now) (steps_to c.numbered_place-place.result) c.args.context.now c.enter.new.context c.solve_node_apart.new.context c.exit.new.context c.in-Ok.mark c.in-Ok-result.said
     node place same c.numbered_place-place.ensures.same c.requires.unknown c.requires.idle c.requires.free c.args.pair.now.number c.requires.numbered c.requires.own c.requires.may_ask.stands
@@ -1363,7 +1363,7 @@ entries::solve_entries-loop-place-preserved g t c =
     let went = c.loop-place.invariant.goes in
     let parts = λ (es : List (Entry g.row.K.Denot)). map (shaped_part g.K.Validate.shape) (map entry_of es) in
     let entries = c.args.entries.now in
-    let laws : (texts : Bool) → EachKeeps (g.K.Validate.words texts) = λ texts m. (g.K.Validate.absorbed m, keeps_of_turns (g.K.Validate.words texts) m (g.K.Validate.absorbed m) (g.K.Validate.remaining m) (g.K.Validate.can_be texts m) (g.K.Validate.ends texts m) (g.K.Validate.fits texts m) (g.met.K.Validate.turn_laws texts m) (g.met.K.Validate.function_laws texts m)) in
+    let laws : (texts : Bool) → KeepsUntold (g.K.Validate.words texts) = λ texts. record { laws = λ m. (g.K.Validate.absorbed m, keeps_of_turns (g.K.Validate.words texts) m (g.K.Validate.absorbed m) (g.K.Validate.remaining m) (g.K.Validate.can_be texts m) (g.K.Validate.ends texts m) (g.K.Validate.fits texts m) (g.met.K.Validate.turn_laws texts m) (g.met.K.Validate.function_laws texts m)); never = g.met.K.Validate.never_told texts } in
     let rest = parts (drop (c.loop-place.place + 1) entries) in
     let Leads : Option ℕ → Type 0 = λ o. InEach set (view here.root) (λ texts w. SaysTheRest w p (found_of here) false (parts entries) (parts (waiting o entries) ++ rest)) in
     let Since : Option ℕ → Type 0 = λ o. IfSome o (λ k. (k < length entries) × InEach set (view here.root) (λ texts w. SaysTheRest w p (found_of here) false (parts entries) (parts (drop k entries)))) in
@@ -1405,7 +1405,7 @@ entries::solve_entries-returns-then-not-valid g t c =
     let went = c.loop-place.invariant.goes in
     let parts = λ (es : List (Entry g.row.K.Denot)). map (shaped_part g.K.Validate.shape) (map entry_of es) in
     let entries = c.args.entries.now in
-    let laws : (texts : Bool) → EachKeeps (g.K.Validate.words texts) = λ texts m. (g.K.Validate.absorbed m, keeps_of_turns (g.K.Validate.words texts) m (g.K.Validate.absorbed m) (g.K.Validate.remaining m) (g.K.Validate.can_be texts m) (g.K.Validate.ends texts m) (g.K.Validate.fits texts m) (g.met.K.Validate.turn_laws texts m) (g.met.K.Validate.function_laws texts m)) in
+    let laws : (texts : Bool) → KeepsUntold (g.K.Validate.words texts) = λ texts. record { laws = λ m. (g.K.Validate.absorbed m, keeps_of_turns (g.K.Validate.words texts) m (g.K.Validate.absorbed m) (g.K.Validate.remaining m) (g.K.Validate.can_be texts m) (g.K.Validate.ends texts m) (g.K.Validate.fits texts m) (g.met.K.Validate.turn_laws texts m) (g.met.K.Validate.function_laws texts m)); never = g.met.K.Validate.never_told texts } in
     let entry = c.index-entries-place.result in
     let told = c.in-Some.ensures.tells in
     let m = g.K.Validate.shape told.keyword in

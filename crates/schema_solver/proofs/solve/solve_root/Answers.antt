@@ -2,7 +2,7 @@ use Rattle.std.proofs.Common.{◌≡◌, ◌∙◌, Bool, [], ap, arith, inl, in
 use Rattle.std.specs.Prelude.{is_some}
 use Rattle.serde_json.specs.View.{view}
 use Rattle.theory_definitions.specs.Instance.{a_value}
-use Rattle.theory_definitions.specs.Laws.{EachKeeps}
+use Rattle.theory_fixed_points.specs.NodesSay.{KeepsUntold}
 use Rattle.theory_meaning.proofs.TurnsGiveRuns.{keeps_of_turns}
 use Rattle.schema_node_table.proofs.RankedTable.{ranked_table}
 use Rattle.schema_run_steps.specs.EvaluationPlaces.{steps_to}
@@ -42,7 +42,7 @@ returns-in-Ok g c =
     let ranked = ranked_table g.K.Validate.shape c.args.engine.now.nodes.now c.assert_ordered.ensures.ordered.0 c.assert_ordered.ensures.ordered.1 in
     let begins : c.args.context.now ≡ fresh v = c.requires.fresh in
     let place : steps_to c.given-place.result ≡ [] = c.given-place.ensures.same ∙ c.root-root.ensures.root in
-    let laws : (texts : Bool) → EachKeeps (g.K.Validate.words texts) = λ texts m. (g.K.Validate.absorbed m, keeps_of_turns (g.K.Validate.words texts) m (g.K.Validate.absorbed m) (g.K.Validate.remaining m) (g.K.Validate.can_be texts m) (g.K.Validate.ends texts m) (g.K.Validate.fits texts m) (g.met.K.Validate.turn_laws texts m) (g.met.K.Validate.function_laws texts m)) in
+    let laws : (texts : Bool) → KeepsUntold (g.K.Validate.words texts) = λ texts. record { laws = λ m. (g.K.Validate.absorbed m, keeps_of_turns (g.K.Validate.words texts) m (g.K.Validate.absorbed m) (g.K.Validate.remaining m) (g.K.Validate.can_be texts m) (g.K.Validate.ends texts m) (g.K.Validate.fits texts m) (g.met.K.Validate.turn_laws texts m) (g.met.K.Validate.function_laws texts m)); never = g.met.K.Validate.never_told texts } in
     let new = c.solve_node.new.context in
     let said = c.in-Ok.said in
     let solved = solved_at set g.K.Validate.says_monotone (steps_to c.given-place.result) c.args.context.now new _ _ _ c.solve_node.ensures (sym c.in-Ok.ensures.same) in
