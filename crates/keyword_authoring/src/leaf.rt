@@ -156,6 +156,7 @@ impl<L: LeafKeyword> Validate for Leaf<L> {
     }
 
     #[tactic(auto, using(crate::proofs::AtOnce::leaf_ends))]
+    #[inline(always)]
     fn is_valid_at_once(&self, instance: Instance<'_>) -> Option<bool> {
         Some(self.keyword.holds(instance))
     }

@@ -184,6 +184,7 @@ impl<T: TellingKeyword> Validate for Telling<T> {
     }
 
     #[tactic(auto, using(crate::proofs::AtOnce::telling_ends))]
+    #[inline(always)]
     fn is_valid_at_once(&self, instance: Instance<'_>) -> Option<bool> {
         match self.keyword.holds_at_once(instance) {
             Some(holds) => Some(holds),
