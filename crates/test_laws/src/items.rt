@@ -75,8 +75,6 @@ impl PlannedKeyword for ItemsPlan {
         true
     }
 
-    ghost never_told = { λ texts m. refl };
-
     ghost grows = { items_plans_grow };
 }
 
@@ -186,6 +184,8 @@ impl Validate for ItemsKeyword {
     ghost turn_laws = { items_turns };
 
     ghost function_laws = { items_functions };
+
+    ghost never_told = { λ texts m. refl };
 
     ghost grows = { items_grows };
 
