@@ -2,11 +2,14 @@
 
 use bowtie_protocol::{Case, Engine, Judge};
 use jsonschema::{BuildError, BuildOptions, MetaSchemas, StandardValidator, options};
-use schema_engine::{Draft, OutOfMemory};
+use schema_engine::{Draft, OutOfMemory, limit_text};
 use serde_json::Value;
 use standard_dialects::standard_draft;
 use standard_subschemas::without_fragment;
-use std::alloc::Global;
+use std::alloc::{AllocError, Global};
+
+/// How many evaluations a call has open at once at most, which a stack of 8 MiB holds.
+const DEPTH_LIMIT: usize = 1000;
 
 /// The engine with the standard's keywords, and the check by the meta-schemas.
 #[derive(Clone, Copy)]
@@ -21,8 +24,19 @@ struct Asked<'v> {
 }
 
 impl Judge for Asked<'_> {
-    fn accepts(&self, alloc: Global, instance: &Value) -> Result<bool, OutOfMemory> {
-        self.validator.is_valid(alloc, instance)
+    fn accepts(
+        &self,
+        alloc: Global,
+        instance: &Value,
+    ) -> Result<Result<bool, String>, OutOfMemory> {
+        let mut work = self.validator.budget();
+        match self.validator.is_valid_within(alloc, instance, &mut work) {
+            Ok(accepted) => Ok(Ok(accepted)),
+            Err(failure) => match self.validator.limit_named(failure) {
+                Some(limit) => Ok(Err(limit_text(alloc, limit)?)),
+                None => Err(AllocError),
+            },
+        }
     }
 }
 
@@ -46,7 +60,9 @@ fn chosen_by<'c>(
     draft: Draft,
     case: &Case<'c>,
 ) -> Result<BuildOptions<'c>, OutOfMemory> {
-    let mut chosen = options(alloc).with_default_draft(draft);
+    let mut chosen = options(alloc)
+        .with_default_draft(draft)
+        .with_depth_limit(DEPTH_LIMIT);
     if names_unknown(case) {
         chosen = chosen.with_draft(draft);
     }

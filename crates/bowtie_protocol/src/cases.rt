@@ -15,12 +15,12 @@ pub struct Case<'c> {
 
 /// Accepts or refuses instances, as a validator does.
 pub trait Judge {
-    /// Returns whether the instance is accepted.
+    /// Returns whether the instance is accepted, or as an inner `Err` why there is no verdict.
     ///
     /// # Errors
     ///
     /// Out of memory.
-    fn accepts(&self, alloc: Global, instance: &Value) -> Result<bool, AllocError>;
+    fn accepts(&self, alloc: Global, instance: &Value) -> Result<Result<bool, String>, AllocError>;
 }
 
 /// Answers cases.
@@ -38,7 +38,14 @@ pub trait Engine {
 
 fn result_of<J: Judge>(alloc: Global, judge: &J, test: &Value) -> Result<Value, AllocError> {
     match test.get("instance") {
-        Some(instance) => verdict(alloc, judge.accepts(alloc, instance)?),
+        Some(instance) => match judge.accepts(alloc, instance)? {
+            Ok(accepted) => verdict(alloc, accepted),
+            Err(why) => {
+                let fault = fault_of_test(alloc, why.as_str());
+                drop(why);
+                fault
+            }
+        },
         None => fault_of_test(alloc, "the test has no instance"),
     }
 }

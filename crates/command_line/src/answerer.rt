@@ -1,7 +1,9 @@
 //! Answers for instances, one by one.
-ghost use Rattle.std.specs.Prelude.{◌≡◌, ◌≤◌, Bool, IfOk, false};
-ghost use Rattle.command_line.specs.Outcomes.{code_of};
-ghost use Rattle.command_line.specs.Tallies.{NoBetter};
+ghost use Rattle.std.specs.Prelude.{IfOk, Option, ℕ};
+ghost use Rattle.serde_json.specs.declared.value.Value.{Value};
+ghost use Rattle.command_line.specs.Tallies.{Counts, IsRight, NoBetter};
+ghost use Rattle.command_line.specs.declared.options.Output.{Output};
+ghost use Rattle.command_line.specs.declared.outcomes.Outcome.{Outcome};
 
 use crate::desk::{Desk, Stop};
 use crate::envelopes::Subject;
@@ -19,8 +21,9 @@ pub type Answer = Result<(Outcome, String), OutOfMemory>;
 
 /// Validates instances against one schema, and returns the texts to print.
 pub trait Answerer {
-    /// Whether an instance may stay without an answer, at a limit.
-    ghost limited: { Self → Bool };
+    /// Which outcome is right for an instance, by the output that is asked for and, where the
+    /// instance is a line, the line's number.
+    ghost right: { Self → Output → Option ℕ → Value → Outcome → Type 0 };
 
     /// Answers for an instance; nothing is printed if the text is empty.
     ///
@@ -31,9 +34,10 @@ pub trait Answerer {
     ///
     /// Out of memory.
     fn answer(&self, alloc: Global, style: Style, subject: Subject<'_>, instance: &Value) -> Answer
-        ensures answered { Self.limited self.now ≡ false → IfOk result (λ a. code_of a.0 ≤ 1) };
+        ensures right { IfOk result (λ a. Self.right self.now style.output subject.entry.line instance.now a.0) };
 }
 
+#[tactic(auto, using(crate::proofs::Counting::counts_on, crate::proofs::Counting::counts_no_better))]
 /// Answers for each file that the options name.
 ///
 /// Then answers for the lines, if the options name a file of lines. The desk's tally counts each
@@ -44,6 +48,7 @@ pub fn answer_by<A: Answerer>(
     options: &Options<'_>,
     answerer: &A,
 ) -> Result<(), Stop>
+    ensures counts { Counts (IsRight (A.Answerer.right answerer.now)) desk.old.tally desk.new.tally }
     ensures no_better { NoBetter desk.old.tally desk.new.tally }
 {
     answer_files(rt, desk, options, answerer)?;

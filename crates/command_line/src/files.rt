@@ -1,5 +1,8 @@
 //! Answers for files that hold one instance each, and for folders of them.
-ghost use Rattle.command_line.specs.Tallies.{NoBetter};
+#![tactic(auto, using(crate::proofs::Counting::counts_same, crate::proofs::Counting::counts_missed, crate::proofs::Counting::counts_on))]
+
+ghost use Rattle.std.specs.Prelude.{◌≡◌};
+ghost use Rattle.command_line.specs.Tallies.{Counts, IsRight};
 
 use crate::answerer::Answerer;
 use crate::desk::{Desk, Stop};
@@ -62,7 +65,7 @@ impl<A: Answerer> Asked<'_, '_, A> {
         subject: Subject<'_>,
         instance: &Value,
     ) -> Result<(), OutOfMemory>
-        ensures no_better { NoBetter desk.old.tally desk.new.tally }
+        ensures counts { Counts (IsRight (A.Answerer.right self.now.answerer.now)) desk.old.tally desk.new.tally }
     {
         let alloc = self.rt.alloc();
         let answer = self.answerer.answer(alloc, desk.style, subject, instance)?;
@@ -72,7 +75,7 @@ impl<A: Answerer> Asked<'_, '_, A> {
 
     /// Reports that a file has no value, and counts it.
     fn miss(&self, desk: &mut Desk, subject: Subject<'_>, fault: &Fault) -> Result<(), Stop>
-        ensures no_better { NoBetter desk.old.tally desk.new.tally }
+        ensures counts { Counts (IsRight (A.Answerer.right self.now.answerer.now)) desk.old.tally desk.new.tally }
     {
         match tell_fault(self.rt, subject.instance, fault) {
             Stop::Told => {
@@ -85,7 +88,7 @@ impl<A: Answerer> Asked<'_, '_, A> {
     }
 
     fn answer_file(&self, desk: &mut Desk, file: &str) -> Result<(), Stop>
-        ensures no_better { NoBetter desk.old.tally desk.new.tally }
+        ensures counts { Counts (IsRight (A.Answerer.right self.now.answerer.now)) desk.old.tally desk.new.tally }
     {
         let subject = Subject {
             schema: self.options.schema,
@@ -107,7 +110,7 @@ impl<A: Answerer> Asked<'_, '_, A> {
     }
 
     fn answer_each(&self, desk: &mut Desk, files: &[String]) -> Result<(), Stop>
-        ensures no_better { NoBetter desk.old.tally desk.new.tally }
+        ensures counts { Counts (IsRight (A.Answerer.right self.now.answerer.now)) desk.old.tally desk.new.tally }
     {
         for file in files {
             self.answer_file(desk, file.as_str())?;
@@ -117,7 +120,7 @@ impl<A: Answerer> Asked<'_, '_, A> {
 
     /// Answers for the files of a folder.
     fn answer_folder(&self, desk: &mut Desk, folder: &str) -> Result<(), Stop>
-        ensures no_better { NoBetter desk.old.tally desk.new.tally }
+        ensures counts { Counts (IsRight (A.Answerer.right self.now.answerer.now)) desk.old.tally desk.new.tally }
     {
         match files_in(self.rt, folder) {
             Ok(files) => {
@@ -134,7 +137,7 @@ impl<A: Answerer> Asked<'_, '_, A> {
     }
 
     fn answer_path(&self, desk: &mut Desk, path: &str) -> Result<(), Stop>
-        ensures no_better { NoBetter desk.old.tally desk.new.tally }
+        ensures counts { Counts (IsRight (A.Answerer.right self.now.answerer.now)) desk.old.tally desk.new.tally }
     {
         if is_folder(self.rt, path) {
             self.answer_folder(desk, path)
@@ -148,7 +151,7 @@ impl<A: Answerer> Asked<'_, '_, A> {
 ///
 /// The counts go to the desk if the output is text, and otherwise to standard error.
 fn sum_up(rt: &HostRuntime, desk: &mut Desk) -> Result<(), OutOfMemory>
-    ensures no_better { NoBetter desk.old.tally desk.new.tally }
+    ensures same { desk.new.tally ≡ desk.old.tally }
 {
     if desk.tally.instances <= 1 {
         return Ok(());
@@ -166,7 +169,7 @@ pub(crate) fn answer_files<A: Answerer>(
     options: &Options<'_>,
     answerer: &A,
 ) -> Result<(), Stop>
-    ensures no_better { NoBetter desk.old.tally desk.new.tally }
+    ensures counts { Counts (IsRight (A.Answerer.right answerer.now)) desk.old.tally desk.new.tally }
 {
     let asked = Asked {
         rt,

@@ -1,5 +1,7 @@
 //! Answers for files with an instance on each line, read line by line.
-ghost use Rattle.command_line.specs.Tallies.{NoBetter};
+#![tactic(auto, using(crate::proofs::Counting::counts_same, crate::proofs::Counting::counts_missed, crate::proofs::Counting::counts_on))]
+
+ghost use Rattle.command_line.specs.Tallies.{Counts, IsRight};
 
 use crate::answerer::Answerer;
 use crate::desk::{Desk, Stop};
@@ -44,7 +46,7 @@ impl<'a, 'w> Asked<'a, 'w> {
         number: u64,
         instance: &Value,
     ) -> Result<Outcome, OutOfMemory>
-        ensures no_better { NoBetter desk.old.tally desk.new.tally }
+        ensures counts { Counts (IsRight (A.Answerer.right answerer.now)) desk.old.tally desk.new.tally }
     {
         let subject = self.subject(number);
         let alloc = self.rt.alloc();
@@ -74,7 +76,7 @@ impl<'a, 'w> Asked<'a, 'w> {
         number: u64,
         line: &[u8],
     ) -> Result<Outcome, OutOfMemory>
-        ensures no_better { NoBetter desk.old.tally desk.new.tally }
+        ensures counts { Counts (IsRight (A.Answerer.right answerer.now)) desk.old.tally desk.new.tally }
     {
         match Value::from_slice(self.rt.alloc(), line) {
             Ok(instance) => {
@@ -101,7 +103,7 @@ impl<'a, 'w> Asked<'a, 'w> {
         line: &[u8],
         tally: &mut Tally,
     ) -> Result<(), OutOfMemory>
-        ensures no_better { NoBetter desk.old.tally desk.new.tally }
+        ensures counts { Counts (IsRight (A.Answerer.right answerer.now)) desk.old.tally desk.new.tally }
     {
         if !is_blank(line) {
             tally.count(self.take(answerer, desk, number, line)?);
@@ -121,7 +123,7 @@ impl<'a, 'w> Asked<'a, 'w> {
         number: u64,
         tally: &mut Tally,
     ) -> Result<bool, Stop>
-        ensures no_better { NoBetter desk.old.tally desk.new.tally }
+        ensures counts { Counts (IsRight (A.Answerer.right answerer.now)) desk.old.tally desk.new.tally }
     {
         line.clear();
         match reader.read_until(b'\n', line) {
@@ -143,7 +145,7 @@ impl<'a, 'w> Asked<'a, 'w> {
         tally: &mut Tally,
         watch: &mut Watch,
     ) -> Result<(), Stop>
-        ensures no_better { NoBetter desk.old.tally desk.new.tally }
+        ensures counts { Counts (IsRight (A.Answerer.right answerer.now)) desk.old.tally desk.new.tally }
     {
         let mut line = Vec::new(self.rt.alloc());
         for number in 1..u64::MAX {
@@ -166,7 +168,7 @@ impl<'a, 'w> Asked<'a, 'w> {
         desk: &mut Desk,
         reader: R,
     ) -> Result<(), Stop>
-        ensures no_better { NoBetter desk.old.tally desk.new.tally }
+        ensures counts { Counts (IsRight (A.Answerer.right answerer.now)) desk.old.tally desk.new.tally }
     {
         let Ok(mut reader) = BufReader::with_capacity(self.rt.alloc(), AT_ONCE, reader) else {
             return Err(Stop::OutOfMemory);
@@ -188,7 +190,7 @@ pub(crate) fn answer_lines<A: Answerer>(
     answerer: &A,
     file: &str,
 ) -> Result<(), Stop>
-    ensures no_better { NoBetter desk.old.tally desk.new.tally }
+    ensures counts { Counts (IsRight (A.Answerer.right answerer.now)) desk.old.tally desk.new.tally }
 {
     let asked = Asked { rt, options, file };
     if file == STANDARD_INPUT {

@@ -106,6 +106,7 @@ pub struct Options<'w> {
     pub checked: bool,
     pub run_limit: Option<u32>,
     pub work_limit: Option<u64>,
+    pub depth_limit: Option<usize>,
     pub nested_limit: Option<usize>,
     /// Whether the progress through the lines is reported.
     pub progress: bool,

@@ -137,8 +137,15 @@ fn work_limit_option<'a>(alloc: Global) -> Arg<'a> {
     option(alloc, "work-limit", "N", help).value_parser(clap::value_parser!(u64))
 }
 
+fn depth_limit_option<'a>(alloc: Global) -> Arg<'a> {
+    let help = "How many evaluations are open at once at most; 0 for any number";
+    option(alloc, "depth-limit", "N", help)
+        .value_parser(clap::value_parser!(usize))
+        .default_value("1000")
+}
+
 fn nested_limit_option<'a>(alloc: Global) -> Arg<'a> {
-    let help = "How many targets of references are compiled one inside another; else 8";
+    let help = "How many targets of references are compiled one inside another; else 4";
     option(alloc, "nested-limit", "N", help).value_parser(clap::value_parser!(usize))
 }
 
@@ -176,6 +183,7 @@ fn outputs<'a>(alloc: Global, command: Command<'a>) -> Result<Command<'a>, OutOf
 fn limits<'a>(alloc: Global, command: Command<'a>) -> Result<Command<'a>, OutOfMemory> {
     let command = command.arg(run_limit_option(alloc))?;
     let command = command.arg(work_limit_option(alloc))?;
+    let command = command.arg(depth_limit_option(alloc))?;
     command.arg(nested_limit_option(alloc))
 }
 
@@ -239,6 +247,13 @@ fn resources_of<'w>(
     Ok(Ok(resources))
 }
 
+/// Returns the limit on depth, unless it is 0.
+fn depth_limit_of(matches: &ArgMatches<'_>) -> Option<usize> {
+    matches
+        .get_one::<usize>("depth-limit")
+        .filter(|limit| *limit > 0)
+}
+
 fn options_of<'w>(
     alloc: Global,
     matches: &ArgMatches<'w>,
@@ -264,6 +279,7 @@ fn options_of<'w>(
         checked: !matches.get_flag("no-check"),
         run_limit: matches.get_one::<u32>("run-limit"),
         work_limit: matches.get_one::<u64>("work-limit"),
+        depth_limit: depth_limit_of(matches),
         nested_limit: matches.get_one::<usize>("nested-limit"),
         progress: matches.get_flag("progress"),
     })

@@ -20,9 +20,9 @@ pub record BuildOptions : Type 0 where
   pub default_draft : Option Draft
   pub documents : List GivenDocument
 
--- nothing is set
+-- nothing is set; fewer targets nest than by the engine's default, for the stack's sake
 abbrev pub no_options : BuildOptions
-no_options = record { engine = default_options; uri = None; default_draft = None; documents = [] }
+no_options = record { engine = record default_options { nested = 4 }; uri = None; default_draft = None; documents = [] }
 
 -- the options, with these of the engine
 abbrev pub with_engine : BuildOptions → Options → BuildOptions

@@ -10,6 +10,10 @@ use standard_resolver::Document;
 use std::alloc::Global;
 use std::marker::Model;
 
+/// How many targets of references are compiled one inside another, if nothing else is set. So many
+/// targets that nest as deep as the JSON reader allows are compiled within a stack of 8 MiB.
+const NESTED_LIMIT: usize = 4;
+
 /// The options of a build, and the documents that references may lead to.
 ///
 /// `options` creates them, each `with_..` sets one, and `build` ends the chain. What is not set, the
@@ -53,7 +57,7 @@ pub fn options<'a>(alloc: Global) -> BuildOptions<'a>
 {
     BuildOptions {
         alloc,
-        engine: ValidationOptions::new(alloc),
+        engine: ValidationOptions::new(alloc).with_nested_limit(NESTED_LIMIT),
         draft: None,
         checks: true,
         uri: None,
@@ -169,7 +173,7 @@ impl<'a> BuildOptions<'a> {
         options
     }
 
-    /// Sets how many targets of references are compiled one inside another. By default these are 8.
+    /// Sets how many targets of references are compiled one inside another. By default these are 4.
     pub fn with_nested_limit(self, limit: usize) -> BuildOptions<'a>
         ensures sets { result ≡ with_engine self.entry (record self.entry.engine { nested = limit }) }
     {
@@ -186,6 +190,17 @@ impl<'a> BuildOptions<'a> {
     {
         let mut options = self;
         options.engine = options.engine.with_run_limit(limit.max(1));
+        options
+    }
+
+    /// Sets how many evaluations a call has open at once at most. By default there is no limit.
+    ///
+    /// So a call takes a bounded part of the stack, whatever the schema and the instance are.
+    pub fn with_depth_limit(self, limit: usize) -> BuildOptions<'a>
+        ensures sets { result ≡ with_engine self.entry (record self.entry.engine { depth = Some limit }) }
+    {
+        let mut options = self;
+        options.engine = options.engine.with_depth_limit(limit);
         options
     }
 

@@ -20,6 +20,9 @@ fn with_limits<'a>(chosen: BuildOptions<'a>, options: &Options<'_>) -> BuildOpti
     if let Some(limit) = options.work_limit {
         chosen = chosen.with_work_limit(limit);
     }
+    if let Some(limit) = options.depth_limit {
+        chosen = chosen.with_depth_limit(limit);
+    }
     if let Some(limit) = options.nested_limit {
         chosen = chosen.with_nested_limit(limit);
     }

@@ -1,15 +1,15 @@
 //! Answers for instances with a validator.
-ghost use Rattle.std.specs.Prelude.{◌≡◌, IfOk, IsSome, is_some};
+ghost use Rattle.std.specs.Prelude.{◌≡◌, IfOk};
 ghost use Rattle.command_line.specs.declared.outcomes.Outcome.TheVariants as outcome;
 ghost use Rattle.standard_meta.specs.DraftMeanings.{regexes};
-ghost use Rattle.jsonschema_cli.specs.Answered.{AnswersBy, HasErrors, HasFirst, HasUnit, HasVerdict};
+ghost use Rattle.jsonschema_cli.specs.Answered.{AnswersBy, HasAnswer, HasErrors, HasFirst, HasLimit, HasUnit, HasVerdict};
 
 use command_line::{
     Answer, Answerer, Outcome, Output, Style, Subject, answered, file_report, flag, line_report,
     unanswered, unanswered_report,
 };
 use jsonschema::StandardValidator;
-use schema_engine::{CallError, OutOfMemory, Validate, Work};
+use schema_engine::{CallError, CallLimit, OutOfMemory, Validate, limit_text};
 use serde_json::Value;
 use standard_keywords::StandardKeyword;
 use std::alloc::{AllocError, Global};
@@ -20,14 +20,14 @@ pub(crate) struct Validating<'v> {
     pub(crate) validator: &'v StandardValidator,
 }
 
-/// Returns the text for an instance on which the validator stopped at its limit on steps.
-fn limit_text(
+/// Returns the text for an instance on which the validator stopped at a limit.
+fn limit_report(
     alloc: Global,
     style: Style,
     subject: Subject<'_>,
-    limit: u64,
+    limit: CallLimit,
 ) -> Result<String, OutOfMemory> {
-    let why = format!(in alloc; "The limit of {limit} steps was reached")?;
+    let why = limit_text(alloc, limit)?;
     let text = match style.output {
         Output::Text => unanswered_report(alloc, subject, why.as_str()),
         output => unanswered(alloc, output, subject, why.as_str()),
@@ -46,15 +46,13 @@ impl Validating<'_> {
         failure: CallError,
     ) -> Answer
         ensures unanswered { IfOk result (λ a. a.0 ≡ outcome.Unanswered) }
-        ensures limit { IfOk result (λ a. IsSome self.now.validator.now.work) }
+        ensures limit { IfOk result (λ a. HasLimit self.now.validator.now) }
     {
-        match (failure, self.validator.work_limit()) {
-            (CallError::WorkLimit, Some(limit)) => {
-                let text = limit_text(alloc, style, subject, limit)?;
-                Ok((Outcome::Unanswered, text))
-            }
-            _ => Err(AllocError),
-        }
+        let Some(limit) = self.validator.limit_named(failure) else {
+            return Err(AllocError);
+        };
+        let text = limit_report(alloc, style, subject, limit)?;
+        Ok((Outcome::Unanswered, text))
     }
 
     /// Returns all errors of an instance, as text.
@@ -62,7 +60,7 @@ impl Validating<'_> {
         ensures errors { IfOk result (λ a. AnswersBy self.now.validator.now
             (HasErrors ⟦<StandardKeyword as Validate>⟧ regexes self.now.validator.now instance.now) a.0) }
     {
-        let mut work = Work::within(self.validator.work_limit());
+        let mut work = self.validator.budget();
         match self
             .validator
             .iter_errors_within(alloc, instance, &mut work)
@@ -89,7 +87,7 @@ impl Validating<'_> {
         ensures first { IfOk result (λ a. AnswersBy self.now.validator.now
             (HasFirst ⟦<StandardKeyword as Validate>⟧ regexes self.now.validator.now instance.now) a.0) }
     {
-        let mut work = Work::within(self.validator.work_limit());
+        let mut work = self.validator.budget();
         match self.validator.validate_within(alloc, instance, &mut work) {
             Ok(Ok(())) => Ok((Outcome::Accepted, String::new(alloc))),
             Ok(Err(error)) => {
@@ -106,7 +104,7 @@ impl Validating<'_> {
         ensures verdict { IfOk result (λ a. AnswersBy self.now.validator.now
             (HasVerdict ⟦<StandardKeyword as Validate>⟧ regexes self.now.validator.now instance.now) a.0) }
     {
-        let mut work = Work::within(self.validator.work_limit());
+        let mut work = self.validator.budget();
         match self.validator.is_valid_within(alloc, instance, &mut work) {
             Ok(accepted) => {
                 let text = answered(alloc, Output::Flag, subject, flag(accepted))?;
@@ -125,7 +123,7 @@ impl Validating<'_> {
         ensures unit { IfOk result (λ a. AnswersBy self.now.validator.now
             (HasUnit ⟦<StandardKeyword as Validate>⟧ regexes self.now.validator.now instance.now) a.0) }
     {
-        let mut work = Work::within(self.validator.work_limit());
+        let mut work = self.validator.budget();
         match self.validator.evaluate_within(alloc, instance, &mut work) {
             Ok(evaluation) => {
                 let accepted = evaluation.is_valid();
@@ -140,7 +138,8 @@ impl Validating<'_> {
 }
 
 impl Answerer for Validating<'_> {
-    ghost limited = { λ v. is_some v.validator.now.work };
+    ghost right = { λ v output line instance. AnswersBy v.validator.now
+        (HasAnswer ⟦<StandardKeyword as Validate>⟧ regexes v.validator.now instance output line) };
 
     fn answer(
         &self,

@@ -5,4 +5,4 @@ mod compiled_schema;
 mod stopping;
 
 pub use compiled_schema::{CallLimits, CompiledSchema};
-pub use stopping::{CallLimit, limit_failure, limit_failure_alone};
+pub use stopping::{CallLimit, limit_failure, limit_failure_alone, limit_text};

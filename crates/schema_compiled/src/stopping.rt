@@ -26,8 +26,12 @@ fn limit_name(alloc: Global, limit: CallLimit) -> Result<String, OutOfMemory>
     }
 }
 
-// Returns the text by which a limit is reported.
-fn limit_text(alloc: Global, limit: CallLimit) -> Result<String, OutOfMemory>
+/// Returns the text by which a limit is reported.
+///
+/// # Errors
+///
+/// Out of memory.
+pub fn limit_text(alloc: Global, limit: CallLimit) -> Result<String, OutOfMemory>
     ensures text { IfOk result (λ text. string_bytes text ≡ limit_text limit) }
 {
     match limit {

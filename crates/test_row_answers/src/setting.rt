@@ -81,11 +81,20 @@ fn with_work(options: ValidationOptions, limit: Option<usize>) -> ValidationOpti
     }
 }
 
+// Sets the limit on depth, if the case has one.
+fn with_depth(options: ValidationOptions, limit: Option<usize>) -> ValidationOptions {
+    match limit {
+        Some(limit) => options.with_depth_limit(limit),
+        None => options,
+    }
+}
+
 // Returns the options of a case with its limits.
 fn limits_of(alloc: Global, case: &Case<'_>) -> ValidationOptions {
     let options = with_nodes(ValidationOptions::new(alloc), case.count("limit"));
     let options = with_nested(options, case.count("nested_limit"));
     let options = with_work(options, case.count("work_limit"));
+    let options = with_depth(options, case.count("depth_limit"));
     match case.runs("run_limit") {
         Some(limit) => options.with_run_limit(limit),
         None => options,

@@ -47,7 +47,7 @@ enum Shape {
 }
 
 /// The members that a row may have.
-const SHAPES: [(&str, Shape); 21] = [
+const SHAPES: [(&str, Shape); 22] = [
     ("name", Shape::Text),
     ("call", Shape::Call),
     ("schema", Shape::Any),
@@ -61,6 +61,7 @@ const SHAPES: [(&str, Shape); 21] = [
     ("nested_limit", Shape::Count),
     ("run_limit", Shape::Runs),
     ("work_limit", Shape::Count),
+    ("depth_limit", Shape::Count),
     ("check", Shape::Truth),
     ("formats", Shape::Truth),
     ("declares", Shape::Texts),

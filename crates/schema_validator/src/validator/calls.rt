@@ -26,15 +26,15 @@ use serde_json::Value;
 use std::alloc::{AllocError, Global};
 
 impl<K: Validate, M: Matcher> Validator<K, M> {
-    // Returns the budget of a call.
-    fn budget(&self) -> Work
+    /// Returns the budget of a call, by the validator's limits.
+    pub fn budget(&self) -> Work
         ensures budget { result ≡ down_to self.now.depth (allowed self.now.work) }
     {
         Work::within(self.work_limit()).with_depth(self.depth_limit())
     }
 
-    // Returns the validator's limit because of which a call failed, if it did because of one.
-    fn limit_named(&self, failure: CallError) -> Option<CallLimit>
+    /// Returns the validator's limit because of which a call failed, if it did because of one.
+    pub fn limit_named(&self, failure: CallError) -> Option<CallLimit>
         ensures limit { IfSome result (IsOneOf self.now.work self.now.depth) }
         ensures named { IfSome result (IsNamedBy failure) }
         ensures steps { failure ≡ CallError.WorkLimit → is_some result ≡ is_some self.now.work }
