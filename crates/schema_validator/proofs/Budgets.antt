@@ -1,5 +1,5 @@
 -- What a call takes of its budget, by what it took of a copy; and which error it returns.
-use Rattle.std.proofs.Common.{◌≡◌, ◌∙◌, Bool, ap, arith, false, inl, inr, refl, subst, sym, true}
+use Rattle.std.proofs.Common.{◌+◌, ◌≡◌, ◌≤◌, ◌∙◌, Bool, ap, arith, false, inl, inr, refl, subst, sym, true}
 use Rattle.std.specs.Prelude.{IfSome, None, Option, Some, is_some, ℕ, ◌⊎◌}
 use Rattle.serde_json.specs.declared.value.Value.{Value}
 use Rattle.serde_json.specs.Data.{Data}
@@ -18,15 +18,30 @@ use Rattle.schema_validator.specs.Budgets.{IsCharged, IsNamedBy, NamesLimit, Sta
 use Rattle.schema_validator.specs.declared.call_error.CallError.{CallError}
 use Rattle.schema_validator.specs.declared.call_error.CallError.TheVariants as failure
 
-module _ (old copy new : Budget) (charged : IsCharged old copy new) where
+-- the copy with which a call begins has as much left
+pub left_at_begin : (old begun : Budget) → begun ≡ down_to old.deepest old → old.left ≡ begun.left
+left_at_begin old begun begins = sym (ap (λ (w : Budget). w.left) begins)
+
+-- `begun` is the copy as the call began, `copy` as it left it
+module _ (old begun copy new : Budget) (begins : begun ≡ down_to old.deepest old) (charged : IsCharged old copy new) where
+  spends_copy : Spends begun copy → Spends old copy
+  spends_copy spends =
+      let spent = subst (λ (w : Budget). Spends w copy) begins spends in
+      record { limited = spent.limited; left = spent.left; deepest = spent.deepest }
+
+  -- with a limit, as much is left as of the copy, if no more was left of that
+  pub kept_charged : Spends begun copy → old.limited ≡ true → new.left ≡ copy.left
+  kept_charged spends limited = charged.kept limited (spends_copy spends)
+
   pub takes_charged : {C Run K M : Type 0} (keywords : KeywordMembers C Run K) (matchers : MatcherMembers M) (p : Program C M) (instance : Data) (call : Call)
-      → TakesByRuns keywords matchers p instance call old copy → TakesByRuns keywords matchers p instance call old new
+      → TakesByRuns keywords matchers p instance call begun copy → TakesByRuns keywords matchers p instance call old new
   takes_charged keywords matchers p instance call takes = record {
     spends = charged.spends;
     runs = λ limited texts speaks.
-        let same = charged.kept limited takes.spends in
-        let (deep, are) = takes.runs limited texts speaks in
-        (deep, λ n more. let (further, makes, fewer) = are n more in (further, makes, omega (arith, same, fewer)));
+        let same = kept_charged takes.spends limited in
+        let taken = subst (λ (w : Budget). TakesByRuns keywords matchers p instance call w copy) begins takes in
+        let (deep, are) = taken.runs limited texts speaks in
+        (deep, λ n more. let (further, makes, fewer) = are n more in let few : copy.left + further ≤ old.left = fewer in (further, makes, omega (arith, same, few)));
   }
 
   -- the budget is stopped only if the copy was
@@ -37,16 +52,14 @@ module _ (old copy new : Budget) (charged : IsCharged old copy new) where
       go (inl is) = late fresh (sym is ∙ stopped)
       go (inr is) = absurd (let f : ⊥ = cc (is, fresh, stopped) in f)
 
-  pub stays_charged : StaysUnstopped old copy → StaysUnstopped old new
+  pub stays_charged : StaysUnstopped begun copy → StaysUnstopped old new
   stays_charged stays = λ fresh. go charged.stopped fresh
     where
+      stays_copy : StaysUnstopped old copy
+      stays_copy = subst (λ (w : Budget). StaysUnstopped w copy) begins stays
       go : (new.stopped ≡ copy.stopped) ⊎ (new.stopped ≡ old.stopped) → old.stopped ≡ false → new.stopped ≡ false
-      go (inl is) fresh = is ∙ stays fresh
+      go (inl is) fresh = is ∙ stays_copy fresh
       go (inr is) fresh = is ∙ fresh
-
-  -- with a limit, as much is left as of the copy, if no more was left of that
-  pub kept_charged : Spends old copy → old.limited ≡ true → new.left ≡ copy.left
-  kept_charged spends limited = charged.kept limited spends
 
 -- ---- how a budget is charged
 
@@ -98,34 +111,34 @@ never_stopped keywords matchers p instance (Steps limit) before after e given is
 never_stopped keywords matchers p instance (Depth limit) before after e given is named none decided going names = cc (is, none)
 
 module _ (old new : Budget) where
-  pub names_limit : Spends old new → new.stopped ≡ true → IsSpent new → NamesLimit old new failure.WorkLimit
-  names_limit spends stopped spent = record {
-    limit = λ _. (stopped, spent);
-    depth = λ is. absurd (let f : ⊥ = cc is in f);
+  pub names_depth : Spends old new → new.too_deep ≡ true → IsBoundedInDepth new → NamesLimit old new failure.DepthLimit
+  names_depth spends too_deep bounded = record {
+    depth = (λ _. too_deep, λ _. refl);
+    bounded = λ _. bounded;
+    limit = λ is. absurd (let f : ⊥ = cc is in f);
     memory = λ is. absurd (let f : ⊥ = cc is in f);
-    shallow = λ is. absurd (let f : ⊥ = cc is in f);
+    unlimited = λ _ free.
+        let kept = ap is_some spends.deepest in
+        absurd (let f : ⊥ = cc (free, kept, bounded) in f);
+  }
+
+  pub names_limit : Spends old new → new.too_deep ≡ false → new.stopped ≡ true → IsSpent new → NamesLimit old new failure.WorkLimit
+  names_limit spends shallow stopped spent = record {
+    depth = (λ is. absurd (let f : ⊥ = cc is in f), λ deep. absurd (let f : ⊥ = cc (deep, shallow) in f));
+    bounded = λ is. absurd (let f : ⊥ = cc is in f);
+    limit = λ _. (stopped, spent);
+    memory = λ is. absurd (let f : ⊥ = cc is in f);
     unlimited = λ free _.
         let kept = spends.limited in
         let limited = spent.0 in
         absurd (let f : ⊥ = cc (free, kept, limited) in f);
   }
 
-  pub names_depth : Spends old new → new.stopped ≡ false → new.too_deep ≡ true → IsBoundedInDepth new → NamesLimit old new failure.DepthLimit
-  names_depth spends going too_deep bounded = record {
+  pub names_memory : new.too_deep ≡ false → new.stopped ≡ false → NamesLimit old new failure.OutOfMemory
+  names_memory shallow going = record {
+    depth = (λ is. absurd (let f : ⊥ = cc is in f), λ deep. absurd (let f : ⊥ = cc (deep, shallow) in f));
+    bounded = λ is. absurd (let f : ⊥ = cc is in f);
     limit = λ is. absurd (let f : ⊥ = cc is in f);
-    depth = λ _. (too_deep, bounded, going);
-    memory = λ is. absurd (let f : ⊥ = cc is in f);
-    shallow = λ is. absurd (let f : ⊥ = cc is in f);
-    unlimited = λ _ free.
-        let kept = ap is_some spends.deepest in
-        absurd (let f : ⊥ = cc (free, kept, bounded) in f);
-  }
-
-  pub names_memory : new.stopped ≡ false → new.too_deep ≡ false → NamesLimit old new failure.OutOfMemory
-  names_memory going shallow = record {
-    limit = λ is. absurd (let f : ⊥ = cc is in f);
-    depth = λ is. absurd (let f : ⊥ = cc is in f);
     memory = λ _. going;
-    shallow = λ _. shallow;
     unlimited = λ _ _. refl;
   }

@@ -1,5 +1,5 @@
 -- What a call takes of its budget, and what it says if it returns no answer.
-use Rattle.std.specs.Prelude.{false, is_some, true, ◌≡◌, ◌⊎◌}
+use Rattle.std.specs.Prelude.{false, is_some, true, ◌≡◌, ◌↔◌, ◌⊎◌}
 use Rattle.schema_run_context.specs.Works.{Budget, IsBoundedInDepth, IsSpent, Spends, down_to}
 use Rattle.schema_compiled.specs.declared.stopping.CallLimit.{CallLimit}
 use Rattle.schema_compiled.specs.declared.stopping.CallLimit.TheVariants.{Depth, Steps}
@@ -24,15 +24,15 @@ pub record IsCharged (old copy new : Budget) : Type 0 where
   pub too_deep : copy.too_deep ≡ false → new.too_deep ≡ false
   pub told : Spends old copy → copy.too_deep ≡ true → new.too_deep ≡ true
 
--- the error of a call that returns no answer names the limit on steps exactly if its budget is
--- stopped, and then there is such a limit and nothing is left; and otherwise the limit on depth
--- exactly if its budget is too small in depth, and then there is such a limit. Without a limit, the
+-- the error of a call that returns no answer names the limit on depth exactly if its budget says that
+-- it was too small in depth, and then there is such a limit; and otherwise the limit on steps exactly
+-- if its budget is stopped, and then there is such a limit and nothing is left. Without a limit, the
 -- call is out of memory
 pub record NamesLimit (old new : Budget) (e : CallError) : Type 0 where
+  pub depth : (e ≡ failure.DepthLimit) ↔ (new.too_deep ≡ true)
+  pub bounded : e ≡ failure.DepthLimit → IsBoundedInDepth new
   pub limit : e ≡ failure.WorkLimit → (new.stopped ≡ true) × IsSpent new
-  pub depth : e ≡ failure.DepthLimit → (new.too_deep ≡ true) × IsBoundedInDepth new × (new.stopped ≡ false)
   pub memory : e ≡ failure.OutOfMemory → new.stopped ≡ false
-  pub shallow : e ≡ failure.OutOfMemory → new.too_deep ≡ false
   pub unlimited : old.limited ≡ false → is_some old.deepest ≡ false → e ≡ failure.OutOfMemory
 
 -- a budget that was not stopped is still not stopped

@@ -1,4 +1,6 @@
 //! Why a call within a budget returns no answer, and what a call takes of its budget.
+ghost use Rattle.std.specs.Prelude.{◌≡◌};
+ghost use Rattle.schema_run_context.specs.Works.{down_to};
 ghost use Rattle.schema_validator.specs.Budgets.{IsCharged, NamesLimit, StepsAreTaken};
 
 use schema_run_context::Work;
@@ -34,6 +36,13 @@ impl fmt::Debug for CallError {
 }
 
 impl Error for CallError {}
+
+// Returns the copy of a budget with which a call begins. It says nothing of the depth of earlier calls.
+pub(crate) fn copy_for_call(work: Work) -> Work
+    ensures copied { result ≡ down_to work.deepest work }
+{
+    work.with_depth(work.depth_limit())
+}
 
 // Returns a budget as it is after a call took its steps from a copy of it. The limit on depth stays,
 // and no flag of it is set.
@@ -77,11 +86,11 @@ pub(crate) fn charge_failure(work: &mut Work, copy: Work) -> CallError
     ensures names { NamesLimit work.old work.new result }
 {
     charge(work, copy);
-    if work.is_stopped() {
-        return CallError::WorkLimit;
-    }
     if work.is_too_deep() {
         return CallError::DepthLimit;
+    }
+    if work.is_stopped() {
+        return CallError::WorkLimit;
     }
     CallError::OutOfMemory
 }

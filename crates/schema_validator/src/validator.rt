@@ -29,7 +29,7 @@ ghost use Rattle.schema_node_table.specs.NodeTable.{numbered};
 mod calls;
 mod cloning;
 
-use crate::call_error::{CallError, charge, charge_failure};
+use crate::call_error::{CallError, charge, charge_failure, copy_for_call};
 pub use schema_compiled::CallLimits;
 use schema_compiled::CompiledSchema;
 use schema_drafts::Draft;
@@ -196,7 +196,8 @@ impl<K: Validate, M: Matcher> Validator<K, M> {
     /// `OutOfMemory`; `WorkLimit`, if the call needs one more step than `work` has left; or
     /// `DepthLimit`, if it needs one more evaluation open at once than `work` allows. In the second
     /// case `work` has a limit on steps, says that it is stopped, and allows no more. In the third
-    /// it has a limit on depth. No more is left of it than before in any case.
+    /// it has a limit on depth, and says that the call tried to exceed it; it says so in no other
+    /// case of an error. No more is left of it than before in any case.
     pub fn is_valid_within(
         &self,
         alloc: Global,
@@ -213,7 +214,7 @@ impl<K: Validate, M: Matcher> Validator<K, M> {
             → OnErr result (StaysUnstopped work.old work.new) }
     {
         self.assert_ranked();
-        let mut copy = *work;
+        let mut copy = copy_for_call(*work);
         match self.schema.valid_under_each(alloc, instance, &mut copy) {
             Ok(valid) => {
                 charge(work, copy);
@@ -238,7 +239,7 @@ impl<K: Validate, M: Matcher> Validator<K, M> {
     /// Let g be the number of nodes that a guarded edge leads to or that are not inlined, and p the
     /// number of places of the instance. The context began at most g * p * g pairs of them, even
     /// with reference cycles (`SolverContext::begun`). The call begins as many pairs as it needs,
-    /// and they do not count against the validator's limit.
+    /// as deep as it needs, and they do not count against the validator's limits.
     ///
     /// # Errors
     ///
@@ -274,7 +275,8 @@ impl<K: Validate, M: Matcher> Validator<K, M> {
     /// `OutOfMemory`; `WorkLimit`, if the call needs to begin one more pair than `work` has left; or
     /// `DepthLimit`, if it needs one more evaluation under way at once than `work` allows. In the
     /// second case `work` has a limit on steps, and says that it is stopped. In the third it has a
-    /// limit on depth.
+    /// limit on depth, and says that the call tried to exceed it; it says so in no other case of an
+    /// error.
     pub fn solve_within<'i>(
         &self,
         alloc: Global,
@@ -296,7 +298,7 @@ impl<K: Validate, M: Matcher> Validator<K, M> {
             → OnErr result (StaysUnstopped work.old work.new) }
     {
         self.assert_ranked();
-        let mut copy = *work;
+        let mut copy = copy_for_call(*work);
         match self.schema.solved(alloc, true, instance, &mut copy) {
             Ok(found) => {
                 charge(work, copy);
@@ -317,7 +319,8 @@ impl<K: Validate, M: Matcher> Validator<K, M> {
     /// `OutOfMemory`; `WorkLimit`, if the call needs one more step than `work` has left; or
     /// `DepthLimit`, if it needs one more evaluation open at once than `work` allows. In the second
     /// case `work` has a limit on steps, says that it is stopped, and allows no more. In the third
-    /// it has a limit on depth. No more is left of it than before in any case.
+    /// it has a limit on depth, and says that the call tried to exceed it; it says so in no other
+    /// case of an error. No more is left of it than before in any case.
     pub fn validate_within<'i>(
         &self,
         alloc: Global,
@@ -337,7 +340,7 @@ impl<K: Validate, M: Matcher> Validator<K, M> {
             → OnErr result (StaysUnstopped work.old work.new) }
     {
         self.assert_ranked();
-        let mut copy = *work;
+        let mut copy = copy_for_call(*work);
         match self.schema.first_under_each(alloc, instance, &mut copy) {
             Ok(error) => {
                 charge(work, copy);
@@ -358,7 +361,8 @@ impl<K: Validate, M: Matcher> Validator<K, M> {
     /// `OutOfMemory`; `WorkLimit`, if the call needs one more step than `work` has left; or
     /// `DepthLimit`, if it needs one more evaluation open at once than `work` allows. In the second
     /// case `work` has a limit on steps, says that it is stopped, and allows no more. In the third
-    /// it has a limit on depth. No more is left of it than before in any case.
+    /// it has a limit on depth, and says that the call tried to exceed it; it says so in no other
+    /// case of an error. No more is left of it than before in any case.
     pub fn iter_errors_within<'i>(
         &self,
         alloc: Global,
@@ -378,7 +382,7 @@ impl<K: Validate, M: Matcher> Validator<K, M> {
             → OnErr result (StaysUnstopped work.old work.new) }
     {
         self.assert_ranked();
-        let mut copy = *work;
+        let mut copy = copy_for_call(*work);
         match self.schema.all_under_each(alloc, instance, &mut copy) {
             Ok(errors) => {
                 charge(work, copy);
@@ -397,7 +401,8 @@ impl<K: Validate, M: Matcher> Validator<K, M> {
     /// `OutOfMemory`; `WorkLimit`, if the call needs one more step than `work` has left; or
     /// `DepthLimit`, if it needs one more evaluation open at once than `work` allows. In the second
     /// case `work` has a limit on steps, says that it is stopped, and allows no more. In the third
-    /// it has a limit on depth. No more is left of it than before in any case.
+    /// it has a limit on depth, and says that the call tried to exceed it; it says so in no other
+    /// case of an error. No more is left of it than before in any case.
     pub fn evaluate_within(
         &self,
         alloc: Global,
@@ -414,7 +419,7 @@ impl<K: Validate, M: Matcher> Validator<K, M> {
         ensures fails { IfErr result (NamesLimit work.old work.new) }
     {
         self.assert_ranked();
-        let mut copy = *work;
+        let mut copy = copy_for_call(*work);
         match self.schema.evaluated_under_each(alloc, instance, &mut copy) {
             Ok(unit) => {
                 charge(work, copy);

@@ -43,5 +43,5 @@ returns-in-Ok-clause-greatest g c =
 
 pub returns-in-Ok-clause-works : goal.returns-in-Ok-clause-works
 returns-in-Ok-clause-works g c =
-    let taken = subst (λ (p : Program g.row.K.Denot g.row.M.Denot). TakesByRuns g.K.Validate g.M.Matcher p (view c.args.instance.now) evaluate c.args.work.now c.evaluated_under_each.new.work) c.self.view_is c.in-Ok.ensures.works in
-    takes_charged _ _ _ c.charge.ensures g.K.Validate g.M.Matcher c.args.self.now (view c.args.instance.now) evaluate taken
+    let taken = subst (λ (p : Program g.row.K.Denot g.row.M.Denot). TakesByRuns g.K.Validate g.M.Matcher p (view c.args.instance.now) evaluate c.copy_for_call-copy.result c.evaluated_under_each.new.work) c.self.view_is c.in-Ok.ensures.works in
+    takes_charged _ _ _ _ c.copy_for_call-copy.ensures.copied c.charge.ensures g.K.Validate g.M.Matcher c.args.self.now (view c.args.instance.now) evaluate taken

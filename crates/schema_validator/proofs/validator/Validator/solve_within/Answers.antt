@@ -11,7 +11,8 @@ use Rattle.schema_solver.specs.Saying.{EachSays}
 use Rattle.schema_solver.specs.declared.eligible.SolvedVerdict.{SolvedVerdict}
 use Rattle.schema_compiled.specs.Asked.{DecidesFromSomeDepth}
 use Rattle.schema_compiled.specs.Program.{Program}
-use Rattle.schema_compiled.specs.Solved.{BeganFew, RestsOnContext, StopsLate}
+use Rattle.schema_run_context.specs.Works.{Budget}
+use Rattle.schema_compiled.specs.Solved.{BeganFew, IsCountedIn, RestsOnContext, StopsLate}
 use Rattle.schema_validator.proofs.Budgets.{kept_charged, stopped_charged}
 use Rattle.schema_validator.proofs.Greatest.{decides_accepted}
 use Rattle.schema_compiled.proofs.Solved.{enough_decide}
@@ -49,13 +50,16 @@ returns-in-Ok-clause-greatest g c =
     IfSome_then c.in-Ok.found (returns-in-Ok-clause-depth g c) (λ v said. decides_accepted k g.M.Matcher keeps c.args.self.now c.assert_ranked.ensures.ranked c.assert_ranked.ensures.inside (view c.args.instance.now) v.valid said)
 
 pub returns-in-Ok-clause-counted : goal.returns-in-Ok-clause-counted
-returns-in-Ok-clause-counted g c = IfSome_then c.in-Ok.found c.in-Ok.ensures.counted (λ (v : SolvedVerdict) counted limited.
-    ap (λ (k : ℕ). v.context.begun + k) (kept_charged _ _ _ c.charge.ensures c.in-Ok.ensures.works limited) ∙ counted limited)
+returns-in-Ok-clause-counted g c =
+    let counted = subst (λ (w : Budget). IfSome c.in-Ok.found (λ (v : SolvedVerdict). IsCountedIn v w c.solved.new.work)) c.copy_for_call-copy.ensures.copied c.in-Ok.ensures.counted in
+    IfSome_then c.in-Ok.found counted (λ (v : SolvedVerdict) counted limited.
+    ap (λ (k : ℕ). v.context.begun + k) (kept_charged _ _ _ _ c.copy_for_call-copy.ensures.copied c.charge.ensures c.in-Ok.ensures.works limited) ∙ counted limited)
 
 late : goal.returns-in-Err-clause-late
 late g c =
-    let stops = subst (λ (p : Program g.row.K.Denot g.row.M.Denot). c.args.work.now.stopped ≡ false → c.solved.new.work.stopped ≡ true → StopsLate g.K.Validate g.M.Matcher p c.args.instance.now c.args.work.now.left) c.self.view_is c.in-Err.ensures.late in
-    stopped_charged _ _ _ c.charge_failure.ensures.charged (StopsLate g.K.Validate g.M.Matcher c.args.self.now c.args.instance.now c.args.work.now.left) stops
+    let stops = subst (λ (p : Program g.row.K.Denot g.row.M.Denot). c.copy_for_call-copy.result.stopped ≡ false → c.solved.new.work.stopped ≡ true → StopsLate g.K.Validate g.M.Matcher p c.args.instance.now c.copy_for_call-copy.result.left) c.self.view_is c.in-Err.ensures.late in
+    let here = subst (λ (w : Budget). w.stopped ≡ false → c.solved.new.work.stopped ≡ true → StopsLate g.K.Validate g.M.Matcher c.args.self.now c.args.instance.now w.left) c.copy_for_call-copy.ensures.copied stops in
+    stopped_charged _ _ _ _ c.copy_for_call-copy.ensures.copied c.charge_failure.ensures.charged (StopsLate g.K.Validate g.M.Matcher c.args.self.now c.args.instance.now c.args.work.now.left) here
 
 pub returns-in-Err-clause-late : goal.returns-in-Err-clause-late
 returns-in-Err-clause-late g c = late g c

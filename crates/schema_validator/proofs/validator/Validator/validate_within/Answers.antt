@@ -17,7 +17,7 @@ use Rattle.schema_compiled.specs.Program.{Program}
 use Rattle.schema_compiled.specs.Solved.{IsDecidedWithin}
 use Rattle.schema_compiled.specs.Taken.{TakesByRuns}
 use Rattle.schema_validator.specs.Budgets.{StaysUnstopped}
-use Rattle.schema_validator.proofs.Budgets.{stays_charged, takes_charged}
+use Rattle.schema_validator.proofs.Budgets.{left_at_begin, stays_charged, takes_charged}
 use Rattle.schema_compiled.specs.Spoken.{FirstAnswered, FirstIsGiven}
 use Rattle.schema_validator.proofs.Greatest.{first_accepted}
 use Rattle.schema_validator.proofs.Pointing.{first_is_given}
@@ -51,10 +51,10 @@ returns-in-Ok-clause-greatest g c =
 
 pub returns-in-Ok-clause-works : goal.returns-in-Ok-clause-works
 returns-in-Ok-clause-works g c =
-    let taken = subst (λ (p : Program g.row.K.Denot g.row.M.Denot). TakesByRuns g.K.Validate g.M.Matcher p (view c.args.instance.now) validate c.args.work.now c.first_under_each.new.work) c.self.view_is c.in-Ok.ensures.works in
-    takes_charged _ _ _ c.charge.ensures g.K.Validate g.M.Matcher c.args.self.now (view c.args.instance.now) validate taken
+    let taken = subst (λ (p : Program g.row.K.Denot g.row.M.Denot). TakesByRuns g.K.Validate g.M.Matcher p (view c.args.instance.now) validate c.copy_for_call-copy.result c.first_under_each.new.work) c.self.view_is c.in-Ok.ensures.works in
+    takes_charged _ _ _ _ c.copy_for_call-copy.ensures.copied c.charge.ensures g.K.Validate g.M.Matcher c.args.self.now (view c.args.instance.now) validate taken
 
 pub returns-in-Err-clause-decides : goal.returns-in-Err-clause-decides
 returns-in-Err-clause-decides g c = λ decided accepts.
-    let going = subst (λ (p : Program g.row.K.Denot g.row.M.Denot). IsDecidedWithin g.K.Validate g.M.Matcher p c.args.instance.now c.args.work.now.left → DecidesFromSomeDepth g.K.Validate g.M.Matcher p (view c.args.instance.now) true → StaysUnstopped c.args.work.now c.first_under_each.new.work) c.self.view_is c.in-Err.ensures.decides in
-    stays_charged _ _ _ c.charge_failure.ensures.charged (going decided accepts)
+    let going = subst (λ (p : Program g.row.K.Denot g.row.M.Denot). IsDecidedWithin g.K.Validate g.M.Matcher p c.args.instance.now c.copy_for_call-copy.result.left → DecidesFromSomeDepth g.K.Validate g.M.Matcher p (view c.args.instance.now) true → StaysUnstopped c.copy_for_call-copy.result c.first_under_each.new.work) c.self.view_is c.in-Err.ensures.decides in
+    stays_charged _ _ _ _ c.copy_for_call-copy.ensures.copied c.charge_failure.ensures.charged (going (subst (IsDecidedWithin g.K.Validate g.M.Matcher c.args.self.now c.args.instance.now) (left_at_begin _ _ c.copy_for_call-copy.ensures.copied) decided) accepts)
