@@ -131,7 +131,7 @@ told_grows name ts os matching a b where_yes h = told_stays (is_nil ts) _ _ (way
 
 spoken_grows : (texts : Bool) (c : Course) → CourseGrows c → CourseGrows (spoken_course texts c)
 spoken_grows texts (by_way w) grows matching a b where_yes h =
-    own_grow (λ (k : Bool) (s : Subject). w) (λ k. true) (λ k s says. grows) texts true refl (a_name []) matching a b where_yes h
+    (own_grow (λ (k : Bool) (s : Subject). w) (λ k. true) (λ k s says. grows) texts true refl).grows (a_name []) matching a b where_yes h
 spoken_grows texts (tells_first name ts os) grows matching a b where_yes h = told_grows name (map (spoken texts) ts) os matching a b where_yes h
 
 -- ---- units
