@@ -57,6 +57,7 @@ module _ (old begun copy new : Budget) (begins : begun ≡ down_to old.deepest o
     where
       stays_copy : StaysUnstopped old copy
       stays_copy = subst (λ (w : Budget). StaysUnstopped w copy) begins stays
+
       go : (new.stopped ≡ copy.stopped) ⊎ (new.stopped ≡ old.stopped) → old.stopped ≡ false → new.stopped ≡ false
       go (inl is) fresh = is ∙ stays_copy fresh
       go (inr is) fresh = is ∙ fresh

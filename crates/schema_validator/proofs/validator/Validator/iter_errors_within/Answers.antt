@@ -56,4 +56,4 @@ returns-in-Ok-clause-works g c =
 pub returns-in-Err-clause-decides : goal.returns-in-Err-clause-decides
 returns-in-Err-clause-decides g c = λ decided accepts.
     let going = subst (λ (p : Program g.row.K.Denot g.row.M.Denot). IsDecidedWithin g.K.Validate g.M.Matcher p c.args.instance.now c.copy_for_call-copy.result.left → DecidesFromSomeDepth g.K.Validate g.M.Matcher p (view c.args.instance.now) true → StaysUnstopped c.copy_for_call-copy.result c.all_under_each.new.work) c.self.view_is c.in-Err.ensures.decides in
-    stays_charged _ _ _ _ c.copy_for_call-copy.ensures.copied c.charge_failure.ensures.charged (going (subst (IsDecidedWithin g.K.Validate g.M.Matcher c.args.self.now c.args.instance.now) (left_at_begin _ _ c.copy_for_call-copy.ensures.copied) decided) accepts)
+    stays_charged _ _ _ _ c.copy_for_call-copy.ensures.copied c.charge_failure.ensures.charged (going (subst (IsDecidedWithin g.K.Validate g.M.Matcher c.args.self.now c.args.instance.now) (left_at_begin c.args.work.now c.copy_for_call-copy.result c.copy_for_call-copy.ensures.copied) decided) accepts)
