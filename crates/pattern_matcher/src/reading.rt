@@ -33,14 +33,13 @@ pub fn copy_ascii(buffer: &mut [char], text: &str) -> bool
     if buffer.len() < bytes.len() {
         return false;
     }
+    let mut seen = 0u8;
     for i in 0..bytes.len() {
         let byte = bytes[i];
-        if byte >= 128 {
-            return false;
-        }
+        seen |= byte;
         buffer[i] = byte as char;
     }
-    true
+    seen < 128
 }
 
 /// Reads a text as a pattern; `None` if it cannot be read.

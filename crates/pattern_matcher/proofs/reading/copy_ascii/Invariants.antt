@@ -5,5 +5,5 @@ abbrev pub invariant-loop-i : goal.invariant-loop-i
 invariant-loop-i l = record {
   size : length l.buffer ≡ length l.initial.buffer;
   copied : take l.i l.buffer ≡ take l.i l.bytes;
-  ascii : (k : ℕ) → k < l.i → get_or l.bytes k 0 < 128;
+  seen : (k : ℕ) → k < l.i → get_or l.bytes k 0 ≤ l.seen;
 }
