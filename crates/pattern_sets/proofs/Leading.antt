@@ -82,6 +82,26 @@ below_ends R i from to below none = record {
     go k j h r true e = below.complete k j (grind (arith, nat_tests)) h r
     go k j h r false e = let ge : i ≤ k = grind (arith, nat_tests) in absurd (true≢false (sym h ∙ none k ge))
 
+-- the one position of a set is the next one, and no other follows
+pub next_only : (m : ℕ) (from : ℕ → Bool) → ((k : ℕ) → from k ≡ (k == m)) → IsNext 0 m from
+next_only m from only = record {
+  from_on = omega arith;
+  set = only m ∙ same m;
+  first = λ k a l. only k ∙ other k l;
+}
+  where
+    same : (k : ℕ) → (k == k) ≡ true
+    same k = grind (arith, nat_tests)
+
+    other : (k : ℕ) → k < m → (k == m) ≡ false
+    other k l = grind (arith, nat_tests)
+
+pub none_after : (m : ℕ) (from : ℕ → Bool) → ((k : ℕ) → from k ≡ (k == m)) → (k : ℕ) → m + 1 ≤ k → from k ≡ false
+none_after m from only k l = only k ∙ other
+  where
+    other : (k == m) ≡ false
+    other = grind (arith, nat_tests)
+
 -- ---- positions that are looked at in any order, and what is left of them
 
 abbrev pub IsPartOf : (ℕ → Bool) → (ℕ → Bool) → Type 0
@@ -180,6 +200,13 @@ joined_image R S from mid to first second = record {
   sound = λ j h. let s = second.sound j h in let f = first.sound s.0 s.1 in (f.0, f.1, (s.0, f.2, s.2));
   complete = λ i j h r. second.complete r.0 j (first.complete i r.0 h r.1) r.2;
 }
+
+-- two relations after one another, and then a third
+pub joined_then : (R S T : ℕ → ℕ → Type 0) (from mid to : ℕ → Bool) → IsImage (Joined R S) from mid → IsImage T mid to → IsImage (Joined R (Joined S T)) from to
+joined_then R S T from mid to first second =
+    image_map (Joined (Joined R S) T) (Joined R (Joined S T)) from to (joined_image (Joined R S) T from mid to first second)
+    (λ i j r. (r.1.0, r.1.1, (r.0, r.1.2, r.2)))
+    (λ i j r. (r.2.0, (r.0, r.1, r.2.1), r.2.2))
 
 pub or_true : (a b : Bool) → (a || b) ≡ true → (a ≡ true) ⊎ (b ≡ true)
 or_true true b h = inl refl

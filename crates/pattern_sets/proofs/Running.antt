@@ -2,7 +2,7 @@
 use Rattle.std.proofs.Common.{◌≡◌, ◌<◌, ◌≤◌, ◌||◌, ◌&&◌, ◌+◌, ◌-◌, ℕ, zero, suc, Bool, true, false, ap, refl, subst, sym, ◌∙◌, inl, inr, arith, max, min, nat_le, nat_lt, true≢false, List, length, Option, Some, None}
 use Rattle.std.proofs.lemmas.Bool.Decides.{nat_tests}
 use Rattle.pattern_trees.specs.Patterns.{IsWithin, Iterates, Matches, One, Repeat}
-use Rattle.pattern_sets.specs.Images.{IsImage, IsImageBelow, IsTaken, Runs, RunsFor, leads, most_within}
+use Rattle.pattern_sets.specs.Images.{GoesOn, IsImage, IsImageBelow, IsTaken, Joined, Runs, RunsFor, leads, most_within}
 use Rattle.pattern_sets.proofs.Leading.{IsNext, image_map, or_left, or_right, or_true}
 
 -- what is known of the run that was seen last, before the next position is looked for
@@ -19,12 +19,6 @@ pub record RunFrom (set : List (ℕ × ℕ)) (text : List ℕ) (most m end : ℕ
   pub taken : (k : ℕ) → m ≤ k → k < end → IsTaken set text k
   pub near : end ≤ m + most
   pub blocked : end < m + most → ¬ (IsTaken set text end)
-
--- where a run goes on that was seen as far as a start
-pub record GoesOn (set : List (ℕ × ℕ)) (text : List ℕ) (start stop end : ℕ) : Type 0 where
-  pub on : start ≤ end
-  pub taken : (k : ℕ) → start ≤ k → k < end → (k < stop) × IsTaken set text k
-  pub blocked : end < stop → ¬ (IsTaken set text end)
 
 -- it ends at the stop at the latest, unless it does not begin
 goes_to : (set : List (ℕ × ℕ)) (text : List ℕ) (start stop end : ℕ) → GoesOn set text start stop end → end ≤ max start stop
@@ -68,7 +62,7 @@ false_le a b h = grind (arith, nat_tests)
 true_le : (a b : ℕ) → nat_le a b ≡ true → a ≤ b
 true_le a b h = grind (arith, nat_tests)
 
-in_span : (first last k : ℕ) → (nat_le first k && nat_le k last) ≡ true → (first ≤ k) × (k ≤ last)
+pub in_span : (first last k : ℕ) → (nat_le first k && nat_le k last) ≡ true → (first ≤ k) × (k ≤ last)
 in_span first last k h = go (nat_le first k) (nat_le k last) refl refl h
   where
     go : (x y : Bool) → nat_le first k ≡ x → nat_le k last ≡ y → (x && y) ≡ true → (first ≤ k) × (k ≤ last)
@@ -183,16 +177,28 @@ most_is_within : (longest n : ℕ) (more : Option ℕ) → n ≤ most_within lon
 most_is_within longest n None l = tt
 most_is_within longest n (Some more) l = l
 
-pub times_image : (set : List (ℕ × ℕ)) (text : List ℕ) (least : ℕ) (more : Option ℕ) (from to : ℕ → Bool) → IsImage (RunsFor set text least (least + most_within (length text) more)) from to → IsImage (leads true (Repeat least more (One set)) text) from to
-times_image set text least more from to image =
-    image_map (RunsFor set text least (least + most_within (length text) more)) (leads true (Repeat least more (One set)) text) from to image
-    (λ i j r.
+pub runs_times : (set : List (ℕ × ℕ)) (text : List ℕ) (least : ℕ) (more : Option ℕ) (i j : ℕ) → RunsFor set text least (least + most_within (length text) more) i j → leads true (Repeat least more (One set)) text i j
+runs_times set text least more i j r =
     let first = r.1 in
     let last = r.2 in
-    (j - (i + least), most_is_within (length text) (j - (i + least)) more (omega arith), runs_iterates set text (least + (j - (i + least))) i j (omega arith) r.0))
-    (λ i j r.
+    (j - (i + least), most_is_within (length text) (j - (i + least)) more (omega arith), runs_iterates set text (least + (j - (i + least))) i j (omega arith) r.0)
+
+pub times_runs : (set : List (ℕ × ℕ)) (text : List ℕ) (least : ℕ) (more : Option ℕ) (i j : ℕ) → leads true (Repeat least more (One set)) text i j → RunsFor set text least (least + most_within (length text) more) i j
+times_runs set text least more i j r =
     let s = iterates_runs set text (least + r.0) i j r.2 in
     let sum = s.1 in
     let inside = runs_inside set text i j s.0 in
     let most = within_most (length text) r.0 more r.1 (omega arith) in
-    (s.0, omega arith, omega arith))
+    (s.0, omega arith, omega arith)
+
+pub times_image : (set : List (ℕ × ℕ)) (text : List ℕ) (least : ℕ) (more : Option ℕ) (from to : ℕ → Bool) → IsImage (RunsFor set text least (least + most_within (length text) more)) from to → IsImage (leads true (Repeat least more (One set)) text) from to
+times_image set text least more from to image =
+    image_map (RunsFor set text least (least + most_within (length text) more)) (leads true (Repeat least more (One set)) text) from to image
+    (λ i j r. runs_times set text least more i j r)
+    (λ i j r. times_runs set text least more i j r)
+
+pub times_joined : (set : List (ℕ × ℕ)) (text : List ℕ) (least : ℕ) (more : Option ℕ) (S : ℕ → ℕ → Type 0) (from to : ℕ → Bool) → IsImage (Joined (RunsFor set text least (least + most_within (length text) more)) S) from to → IsImage (Joined (leads true (Repeat least more (One set)) text) S) from to
+times_joined set text least more S from to image =
+    image_map (Joined (RunsFor set text least (least + most_within (length text) more)) S) (Joined (leads true (Repeat least more (One set)) text) S) from to image
+    (λ i j r. (r.0, runs_times set text least more i r.0 r.1, r.2))
+    (λ i j r. (r.0, times_runs set text least more i r.0 r.1, r.2))

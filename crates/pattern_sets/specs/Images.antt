@@ -58,6 +58,23 @@ IsTaken set text i = (i < length text) × (in_set set (slice_index text i) ≡ t
 abbrev pub Runs : List (ℕ × ℕ) → List ℕ → ℕ → ℕ → Type 0
 Runs set text i j = (i ≤ j) × ((k : ℕ) → i ≤ k → k < j → IsTaken set text k)
 
+-- where a run goes on that was seen as far as a start
+pub record GoesOn (set : List (ℕ × ℕ)) (text : List ℕ) (start stop end : ℕ) : Type 0 where
+  pub on : start ≤ end
+  pub taken : (k : ℕ) → start ≤ k → k < end → (k < stop) × IsTaken set text k
+  pub blocked : end < stop → ¬ (IsTaken set text end)
+
+-- a run of characters of one set, from a position on, meets a character of another
+abbrev pub Meets : List (ℕ × ℕ) → List (ℕ × ℕ) → List ℕ → ℕ → Type 0
+Meets run last text i = (j : ℕ) × Runs run text i j × IsTaken last text j
+
+-- it meets none up to where it ends
+pub record Misses (run last : List (ℕ × ℕ)) (text : List ℕ) (i end : ℕ) : Type 0 where
+  pub on : i ≤ end
+  pub near : end ≤ i + length text
+  pub unmet : (j : ℕ) → i ≤ j → j ≤ end → ¬ (IsTaken last text j)
+  pub blocked : ¬ (IsTaken run text end)
+
 -- so, and they are so many at least and so many at most
 abbrev pub RunsFor : List (ℕ × ℕ) → List ℕ → ℕ → ℕ → ℕ → ℕ → Type 0
 RunsFor set text least most i j = Runs set text i j × (i + least ≤ j) × (j ≤ i + most)

@@ -1,16 +1,17 @@
 //! Where a pattern leads, where the positions of the text fit into one word.
 ghost use Rattle.std.specs.Prelude.{◌≡◌, ◌<◌, ◌≤◌, ◌+◌, ◌-◌, ◌==◌, ◌&&◌, ◌||◌, ℕ, Some, None, MatchOption, length, true, false, nat_le};
 ghost use Rattle.pattern_trees.specs.Nodes.{node_of};
-ghost use Rattle.pattern_trees.specs.Patterns.{Either, IsFound, Iterates, Look, Repeat};
+ghost use Rattle.pattern_trees.specs.Patterns.{Either, IsFound, Iterates, Look, One, Repeat};
 ghost use Rattle.pattern_trees.specs.Trees.{pattern_of};
 ghost use Rattle.pattern_sets.specs.Images.{IsImage, IsOne, Joined, Reaches, Spreads, Steps, in_word, leads};
 
 use crate::turns::{any_of, more_turns, one_of};
 use crate::word_steps::{
-    all, keep_edges, next, run_back, run_reaches, step_back, step_on, step_reaches, times_on,
+    all, is_only, keep_edges, next, run_back, run_reaches, step_back, step_on, step_reaches,
+    times_on, times_then,
 };
 use pattern_rows::{both, either, without};
-use pattern_trees::Tree;
+use pattern_trees::{CharSet, Tree};
 
 /// Returns where a pattern leads in a text of at most 63 characters.
 #[cycle(word_walk)]
@@ -79,8 +80,88 @@ fn word_row(first: &Tree, rest: &Tree, text: &[char], from: u64) -> u64
     requires short { length text.now < 64 }
     ensures leaves { IsImage (Joined (leads true (pattern_of (node_of first.now)) text.now) (leads true (pattern_of (node_of rest.now)) text.now)) (in_word from) (in_word result) }
 {
-    let at = word_first(first, text, true, from);
-    word_on(rest, text, at)
+    match first {
+        Tree::Times(turns, body) => {
+            word_times_row(turns.min, more_turns(turns), body, rest, text, from)
+        }
+        _ => {
+            let at = word_first(first, text, true, from);
+            word_on(rest, text, at)
+        }
+    }
+}
+
+// Returns where a repetition leads, on, and then the others of a row.
+#[cycle(word_walk)]
+fn word_times_row(
+    least: u32,
+    more: Option<u32>,
+    body: &Tree,
+    rest: &Tree,
+    text: &[char],
+    from: u64,
+) -> u64
+    requires short { length text.now < 64 }
+    ensures leaves { IsImage (Joined (leads true (Repeat least more (pattern_of (node_of body.now))) text.now) (leads true (pattern_of (node_of rest.now)) text.now)) (in_word from) (in_word result) }
+{
+    match body {
+        Tree::OneOf(run) => word_run_row(run, least, more, rest, text, from),
+        _ => {
+            let at = word_turns(least, more, body, text, true, from);
+            word_on(rest, text, at)
+        }
+    }
+}
+
+// Returns where a run of characters of one set leads, on, and then the others of a row.
+#[cycle(word_walk)]
+fn word_run_row(
+    run: &CharSet,
+    least: u32,
+    more: Option<u32>,
+    rest: &Tree,
+    text: &[char],
+    from: u64,
+) -> u64
+    requires short { length text.now < 64 }
+    ensures leaves { IsImage (Joined (leads true (Repeat least more (One run.now.spans.items)) text.now) (leads true (pattern_of (node_of rest.now)) text.now)) (in_word from) (in_word result) }
+{
+    match rest {
+        Tree::OneOf(last) => times_then(run, last, text, least, more, from),
+        Tree::Pair(a, b) => word_run_pair(run, least, more, a, b, text, from),
+        _ => {
+            let at = times_on(run, text, least, more, from);
+            word_on(rest, text, at)
+        }
+    }
+}
+
+// Returns the same, where the others are two or more.
+//
+// One character after the run is looked for with it.
+#[cycle(word_walk)]
+fn word_run_pair(
+    run: &CharSet,
+    least: u32,
+    more: Option<u32>,
+    first: &Tree,
+    rest: &Tree,
+    text: &[char],
+    from: u64,
+) -> u64
+    requires short { length text.now < 64 }
+    ensures leaves { IsImage (Joined (leads true (Repeat least more (One run.now.spans.items)) text.now) (Joined (leads true (pattern_of (node_of first.now)) text.now) (leads true (pattern_of (node_of rest.now)) text.now))) (in_word from) (in_word result) }
+{
+    match first {
+        Tree::OneOf(last) => {
+            let at = times_then(run, last, text, least, more, from);
+            word_on(rest, text, at)
+        }
+        _ => {
+            let at = times_on(run, text, least, more, from);
+            word_row(first, rest, text, at)
+        }
+    }
 }
 
 // Returns where a pattern leads, on, that is likely a row.
@@ -146,9 +227,27 @@ fn word_branch(tree: &Tree, text: &[char], forward: bool, from: u64) -> u64
     ensures walks { IsImage (leads forward (pattern_of (node_of tree.now)) text.now) (in_word from) (in_word result) }
 {
     match tree {
-        Tree::Pair(a, b) if forward => word_row(a, b, text, from),
+        Tree::Pair(a, b) if forward => word_branch_row(a, b, text, from),
         Tree::Choice(a, b) => word_choice(a, b, text, forward, from),
         _ => word_walk(tree, text, forward, from),
+    }
+}
+
+// Returns where one of several rows leads, on.
+//
+// One that begins with a character which does not follow takes no further call.
+#[inline(always)]
+#[cycle(word_walk)]
+fn word_branch_row(first: &Tree, rest: &Tree, text: &[char], from: u64) -> u64
+    requires short { length text.now < 64 }
+    ensures leaves { IsImage (Joined (leads true (pattern_of (node_of first.now)) text.now) (leads true (pattern_of (node_of rest.now)) text.now)) (in_word from) (in_word result) }
+{
+    match first {
+        Tree::OneOf(set) => {
+            let at = step_on(set, text, from);
+            word_on(rest, text, at)
+        }
+        _ => word_row(first, rest, text, from),
     }
 }
 
@@ -158,10 +257,7 @@ fn is_one(word: u64) -> bool
 {
     match next(word, 0) {
         None => true,
-        Some(m) => match next(word, m + 1) {
-            None => true,
-            Some(_) => false,
-        },
+        Some(m) => is_only(word, m),
     }
 }
 

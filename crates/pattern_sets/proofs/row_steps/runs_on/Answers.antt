@@ -1,8 +1,8 @@
 use Rattle.std.proofs.Common.{ℕ, ◌≡◌, ◌+◌, ◌*◌, ◌||◌, ◌&&◌, ◌∙◌, arith, nat_le, sym}
 use Rattle.pattern_rows.specs.Rows.{has, width}
-use Rattle.pattern_sets.specs.Images.{RunsFor}
+use Rattle.pattern_sets.specs.Images.{GoesOn, RunsFor}
 use Rattle.pattern_sets.proofs.Leading.{IsNext, below_begins, below_ends}
-use Rattle.pattern_sets.proofs.Running.{GoesOn, below_run, put_again, reached_on, run_from, run_within, scan_begins, scan_on}
+use Rattle.pattern_sets.proofs.Running.{below_run, put_again, reached_on, run_from, run_within, scan_begins, scan_on}
 use Rattle.pattern_sets.proofs.row_steps.runs_on.Goals as goal
 
 pub steps-init : goal.steps-init

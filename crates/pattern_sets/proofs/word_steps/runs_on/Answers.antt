@@ -1,7 +1,7 @@
 use Rattle.std.proofs.Common.{arith}
-use Rattle.pattern_sets.specs.Images.{RunsFor, in_word}
+use Rattle.pattern_sets.specs.Images.{GoesOn, RunsFor, in_word}
 use Rattle.pattern_sets.proofs.Leading.{IsNext, below_begins, below_ends}
-use Rattle.pattern_sets.proofs.Running.{GoesOn, below_run, run_from, run_within, scan_begins, scan_on}
+use Rattle.pattern_sets.proofs.Running.{below_run, run_from, run_within, scan_begins, scan_on}
 use Rattle.pattern_rows.proofs.Bits.{no_bit_of_zero}
 use Rattle.pattern_sets.proofs.word_steps.runs_on.Goals as goal
 

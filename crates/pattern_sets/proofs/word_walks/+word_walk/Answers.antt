@@ -1,12 +1,12 @@
 use Rattle.std.proofs.Common.{◌≡◌, ◌≤◌, ◌+◌, ◌==◌, ◌&&◌, ◌||◌, ◌∙◌, Bool, ℕ, Some, None, List, ap, length, not, true, false, true≢false, arith, refl, sym, subst}
 use Rattle.std.proofs.lemmas.Bool.Decides.{nat_tests}
 use Rattle.pattern_trees.specs.declared.tree.Tree.{Tree}
-use Rattle.pattern_trees.specs.Patterns.{Iterates, Then}
+use Rattle.pattern_trees.specs.Patterns.{Iterates, One, Repeat, Then}
 use Rattle.pattern_rows.proofs.Bits.{no_bit_of_zero, some_bit}
 use Rattle.pattern_sets.specs.Images.{IsImage, Joined, Reaches, in_word, leads}
 use Rattle.pattern_trees.specs.Nodes.{node_of}
 use Rattle.pattern_trees.specs.Trees.{pattern_of}
-use Rattle.pattern_sets.proofs.Leading.{or_left, or_right}
+use Rattle.pattern_sets.proofs.Leading.{joined_image, joined_then, or_left, or_right}
 use Rattle.pattern_sets.proofs.Reaching.{exact_fixed, exact_goes_on, image_as, missing_less, or_none, positive, reached_ends, reached_goes_on, spreads_as, within_ends, within_goes_on}
 use Rattle.pattern_sets.proofs.Walking.{either_image, look_unwanted, look_wanted, repeat_image}
 use Rattle.pattern_sets.proofs.Looking.{joined_reaches, look_everywhere, look_nowhere, unlook_everywhere, unlook_nowhere, walked_reaches}
@@ -185,4 +185,20 @@ word_peek-returns-else-wanted-2 t c =
     let p = pattern_of (node_of c.args.body.now) in
     record {
       walks = λ one. rw c.if-wanted-2.false (unlook_everywhere c.args.forward c.args.ahead p c.args.text.now (in_word c.args.from) c.word_reaches.result one c.word_reaches.ensures.reaches c.if-word_reaches.false);
+    }
+
+pub word_run_pair-returns-in-OneOf : goal.word_run_pair-returns-in-OneOf
+word_run_pair-returns-in-OneOf t c =
+    let text = c.args.text.now in
+    record {
+      leaves = rw c.in-OneOf.is (joined_then (leads true (Repeat c.args.least c.args.more (One c.args.run.now.spans.items)) text) (leads true (One c.in-OneOf.last.spans.items) text) (leads true (pattern_of (node_of c.args.rest.now)) text) (in_word c.args.from) (in_word c.times_then-at.result) (in_word c.word_on.result)
+          c.times_then-at.ensures.leaves c.word_on.ensures.walks);
+    }
+
+pub word_run_pair-returns-in_default : goal.word_run_pair-returns-in_default
+word_run_pair-returns-in_default t c =
+    let text = c.args.text.now in
+    record {
+      leaves = joined_image (leads true (Repeat c.args.least c.args.more (One c.args.run.now.spans.items)) text) (Joined (leads true (pattern_of (node_of c.args.first.now)) text) (leads true (pattern_of (node_of c.args.rest.now)) text)) (in_word c.args.from) (in_word c.times_on-at.result) (in_word c.word_row.result)
+          c.times_on-at.ensures.walks c.word_row.ensures.leaves;
     }

@@ -3,7 +3,7 @@ use Rattle.pattern_trees.specs.Patterns.{One}
 use Rattle.pattern_sets.specs.Images.{IsImageBut, in_word, leads}
 use Rattle.pattern_sets.proofs.Leading.{IsPartOf}
 use Rattle.pattern_sets.proofs.Reaching.{missing}
-use Rattle.pattern_sets.proofs.word_steps.step_on.Given as goal
+use Rattle.pattern_sets.proofs.word_steps.steps_on.Given as goal
 
 abbrev pub invariant-steps : goal.invariant-steps
 invariant-steps l = record {

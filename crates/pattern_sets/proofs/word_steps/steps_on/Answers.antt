@@ -4,8 +4,8 @@ use Rattle.pattern_sets.specs.Images.{in_word, leads}
 use Rattle.pattern_sets.proofs.Leading.{but_begins, but_ends, but_put, but_skip, left_part, left_there, left_was}
 use Rattle.pattern_sets.proofs.Reaching.{missing_less}
 use Rattle.pattern_rows.proofs.Bits.{no_bit_of_zero}
-use Rattle.pattern_sets.proofs.word_steps.step_on.Goals as goal
-use Rattle.pattern_sets.proofs.word_steps.step_on.Goals.{then-takes, else-takes}
+use Rattle.pattern_sets.proofs.word_steps.steps_on.Goals as goal
+use Rattle.pattern_sets.proofs.word_steps.steps_on.Goals.{then-takes, else-takes}
 
 pub steps-init : goal.steps-init
 steps-init c =
