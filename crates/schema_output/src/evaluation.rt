@@ -47,6 +47,13 @@ impl Evaluation {
         Evaluation { root }
     }
 
+    /// Returns the outermost unit.
+    pub fn root(&self) -> &EvaluationNode
+        ensures root { result.now ≡ self.now }
+    {
+        &self.root
+    }
+
     /// Returns the verdict of the outermost unit: whether the instance is valid.
     pub fn is_valid(&self) -> bool
         ensures verdict { (texts : Bool) → result ≡ (report_of (unit_of texts self.now)).valid }
