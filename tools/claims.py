@@ -52,6 +52,7 @@ SCOPE = (
     "standard_keywords::StandardTable",
     "standard_meta::MetaDocuments",
     "standard_meta::MetaSchemas",
+    "error_causes",
     "jsonschema",
     "text_formats::Format",
 )
