@@ -1,6 +1,6 @@
 -- What a call takes of its budget, by what it took of a copy; and which error it returns.
 use Rattle.std.proofs.Common.{◌+◌, ◌≡◌, ◌≤◌, ◌∙◌, Bool, ap, arith, false, inl, inr, refl, subst, sym, true}
-use Rattle.std.specs.Prelude.{IfSome, None, Option, Some, is_some, ℕ, ◌⊎◌}
+use Rattle.std.specs.Prelude.{IfSome, None, Option, is_some, ℕ, ◌⊎◌}
 use Rattle.serde_json.specs.declared.value.Value.{Value}
 use Rattle.serde_json.specs.Data.{Data}
 use Rattle.theory_definitions.specs.Cover.{Call}

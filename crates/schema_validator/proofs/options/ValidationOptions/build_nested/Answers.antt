@@ -3,7 +3,6 @@ use Rattle.std.specs.Prelude.{Ok, option_map, string_bytes}
 use Rattle.std.proofs.lemmas.Option.{slice_get_within}
 use Rattle.std.proofs.lemmas.Result.{err_from_is_err_and}
 use Rattle.serde_json.specs.View.{view}
-use Rattle.schema_drafts.specs.KeywordTable.{builtin_in}
 use Rattle.schema_drafts.specs.KeywordViews.{draft_of}
 use Rattle.theory_definitions.specs.Plan.{Key}
 use Rattle.theory_definitions.specs.Laws.{EachKeeps}
