@@ -6,7 +6,7 @@ ghost use Rattle.pattern_sets.specs.Images.{IsTaken};
 use pattern_trees::{CharSet, Edge};
 
 /// Returns whether the character after a position is in a set.
-#[inline]
+#[inline(always)]
 pub fn takes(set: &CharSet, text: &[char], position: usize) -> bool
     ensures yes { result ≡ true → IsTaken set.now.spans.items text.now position }
     ensures no { result ≡ false → ¬ (IsTaken set.now.spans.items text.now position) }

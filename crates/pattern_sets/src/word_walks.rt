@@ -105,9 +105,9 @@ fn word_times_row(
     ensures leaves { IsImage (Joined (leads true (Repeat least more (pattern_of (node_of body.now))) text.now) (leads true (pattern_of (node_of rest.now)) text.now)) (in_word from) (in_word result) }
 {
     match body {
-        Tree::OneOf(run) => word_run_row(run, least, more, rest, text, from),
+        Tree::OneOf(run) if more.is_none() => word_run_row(run, least, more, rest, text, from),
         _ => {
-            let at = word_turns(least, more, body, text, true, from);
+            let at = word_times(least, more, body, text, true, from);
             word_on(rest, text, at)
         }
     }
@@ -212,24 +212,38 @@ fn word_choice(a: &Tree, b: &Tree, text: &[char], forward: bool, from: u64) -> u
     requires short { length text.now < 64 }
     ensures walks { IsImage (leads forward (Either (pattern_of (node_of a.now)) (pattern_of (node_of b.now))) text.now) (in_word from) (in_word result) }
 {
-    let left = word_branch(a, text, forward, from);
-    let right = word_branch(b, text, forward, from);
+    if forward {
+        return word_choice_on(a, b, text, from);
+    }
+    let left = word_walk(a, text, forward, from);
+    let right = word_walk(b, text, forward, from);
     either(left, right)
 }
 
-// Returns where one of several patterns leads.
+// Returns where one of two patterns leads, on.
+#[cycle(word_walk)]
+fn word_choice_on(a: &Tree, b: &Tree, text: &[char], from: u64) -> u64
+    requires short { length text.now < 64 }
+    ensures walks { IsImage (leads true (Either (pattern_of (node_of a.now)) (pattern_of (node_of b.now))) text.now) (in_word from) (in_word result) }
+{
+    let left = word_branch(a, text, from);
+    let right = word_branch(b, text, from);
+    either(left, right)
+}
+
+// Returns where one of several patterns leads, on.
 //
 // Many are a row or a choice, which takes no further call.
 #[inline(always)]
 #[cycle(word_walk)]
-fn word_branch(tree: &Tree, text: &[char], forward: bool, from: u64) -> u64
+fn word_branch(tree: &Tree, text: &[char], from: u64) -> u64
     requires short { length text.now < 64 }
-    ensures walks { IsImage (leads forward (pattern_of (node_of tree.now)) text.now) (in_word from) (in_word result) }
+    ensures walks { IsImage (leads true (pattern_of (node_of tree.now)) text.now) (in_word from) (in_word result) }
 {
     match tree {
-        Tree::Pair(a, b) if forward => word_branch_row(a, b, text, from),
-        Tree::Choice(a, b) => word_choice(a, b, text, forward, from),
-        _ => word_walk(tree, text, forward, from),
+        Tree::Pair(a, b) => word_branch_row(a, b, text, from),
+        Tree::Choice(a, b) => word_choice_on(a, b, text, from),
+        _ => word_walk(tree, text, true, from),
     }
 }
 
@@ -461,6 +475,6 @@ pub fn word_matches(tree: &Tree, text: &[char]) -> bool
     ensures yes { result ≡ true → IsFound (pattern_of (node_of tree.now)) text.now }
     ensures no { result ≡ false → ¬ (IsFound (pattern_of (node_of tree.now)) text.now) }
 {
-    let found = word_walk(tree, text, true, all(text.len()));
+    let found = word_on(tree, text, all(text.len()));
     found != 0
 }

@@ -92,7 +92,14 @@ word_at_most-returns t c =
 pub word_choice-returns : goal.word_choice-returns
 word_choice-returns t c =
     record {
-      walks = either_image c.args.forward (pattern_of (node_of c.args.a.now)) (pattern_of (node_of c.args.b.now)) c.args.text.now (in_word c.args.from) (in_word c.args.from) (in_word c.word_branch-left.result) (in_word c.word_branch-right.result) (in_word c.either.result)
+      walks = either_image c.args.forward (pattern_of (node_of c.args.a.now)) (pattern_of (node_of c.args.b.now)) c.args.text.now (in_word c.args.from) (in_word c.args.from) (in_word c.word_walk-left.result) (in_word c.word_walk-right.result) (in_word c.either.result)
+          (λ k. refl) c.word_walk-left.ensures.walks c.word_walk-right.ensures.walks c.either.ensures.bits;
+    }
+
+pub word_choice_on-returns : goal.word_choice_on-returns
+word_choice_on-returns t c =
+    record {
+      walks = either_image true (pattern_of (node_of c.args.a.now)) (pattern_of (node_of c.args.b.now)) c.args.text.now (in_word c.args.from) (in_word c.args.from) (in_word c.word_branch-left.result) (in_word c.word_branch-right.result) (in_word c.either.result)
           (λ k. refl) c.word_branch-left.ensures.walks c.word_branch-right.ensures.walks c.either.ensures.bits;
     }
 

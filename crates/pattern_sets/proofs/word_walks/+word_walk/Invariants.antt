@@ -35,7 +35,7 @@ abbrev pub decreases-word_first : goal.decreases-word_first
 decreases-word_first l = 8 * size-Tree l.tree.now + 2
 
 abbrev pub decreases-word_choice : goal.decreases-word_choice
-decreases-word_choice l = 8 * max (size-Tree l.a.now) (size-Tree l.b.now) + 3
+decreases-word_choice l = 8 * max (size-Tree l.a.now) (size-Tree l.b.now) + 4
 
 abbrev pub decreases-word_branch : goal.decreases-word_branch
 decreases-word_branch l = 8 * size-Tree l.tree.now + 2
@@ -74,19 +74,22 @@ abbrev pub decreases-word_spread : goal.decreases-word_spread
 decreases-word_spread l = 8 * size-Tree l.body.now + 2
 
 abbrev pub decreases-word_row : goal.decreases-word_row
-decreases-word_row l = 8 * max (size-Tree l.first.now) (size-Tree l.rest.now) + 6
+decreases-word_row l = 8 * max (size-Tree l.first.now) (size-Tree l.rest.now) + 7
 
 abbrev pub decreases-word_on : goal.decreases-word_on
 decreases-word_on l = 8 * size-Tree l.tree.now + 3
 
 abbrev pub decreases-word_times_row : goal.decreases-word_times_row
-decreases-word_times_row l = 8 * max (size-Tree l.body.now) (size-Tree l.rest.now) + 5
+decreases-word_times_row l = 8 * max (size-Tree l.body.now) (size-Tree l.rest.now) + 6
 
 abbrev pub decreases-word_run_row : goal.decreases-word_run_row
 decreases-word_run_row l = 8 * size-Tree l.rest.now + 4
 
 abbrev pub decreases-word_run_pair : goal.decreases-word_run_pair
-decreases-word_run_pair l = 8 * max (size-Tree l.first.now) (size-Tree l.rest.now) + 7
+decreases-word_run_pair l = 8 * max (size-Tree l.first.now) (size-Tree l.rest.now) + 8
 
 abbrev pub decreases-word_branch_row : goal.decreases-word_branch_row
-decreases-word_branch_row l = 8 * max (size-Tree l.first.now) (size-Tree l.rest.now) + 7
+decreases-word_branch_row l = 8 * max (size-Tree l.first.now) (size-Tree l.rest.now) + 8
+
+abbrev pub decreases-word_choice_on : goal.decreases-word_choice_on
+decreases-word_choice_on l = 8 * max (size-Tree l.a.now) (size-Tree l.b.now) + 3
