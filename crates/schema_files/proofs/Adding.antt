@@ -1,6 +1,5 @@
 -- A URI that is not among those before it is new.
 use Rattle.std.proofs.Common.{◌≡◌, ◌∙◌, ◌++◌, ◌∷◌, ◌||◌, [], Bool, List, ap, append-nil, append_assoc, bytes_eq, false, map, refl, subst, sym, true}
-use Rattle.std.specs.List.{list_any}
 use Rattle.std.proofs.lemmas.List.{map-append}
 use Rattle.theory_definitions.specs.Instance.{Text}
 use Rattle.schema_files.specs.Gathering.{AreNew, is_among}

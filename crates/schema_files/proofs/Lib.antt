@@ -1,3 +1,4 @@
 mod Adding
+mod Following
 mod Listing
 mod Returning

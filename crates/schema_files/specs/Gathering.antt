@@ -1,5 +1,5 @@
 -- The URIs of documents that are at hand, and of files that are new.
-use Rattle.std.specs.Prelude.{Bool, List, [], bytes_eq, false, flat_map, ⊤, ◌++◌, ◌∷◌, ◌≡◌}
+use Rattle.std.specs.Prelude.{Bool, IsSome, List, [], bytes_eq, false, flat_map, true, ⊤, ◌++◌, ◌∷◌, ◌≡◌}
 use Rattle.std.specs.List.{list_any}
 use Rattle.serde_json.specs.Data.{Data}
 use Rattle.theory_definitions.specs.Drafts.{Draft}
@@ -8,6 +8,8 @@ use Rattle.uri_references.specs.Normal.{normalized}
 use Rattle.standard_subschemas.specs.DocumentUris.{root_base}
 use Rattle.standard_subschemas.specs.SubschemaRules.{detected, without_fragment}
 use Rattle.standard_subschemas.specs.declared.rules.Rule.TheVariants.{Standard}
+use Rattle.schema_files.specs.FileUris.{path_of_uri}
+use Rattle.schema_files.specs.References.{Reference, document_references}
 
 -- a document that is at hand, and its URI
 pub record Supplied : Type 0 where
@@ -28,3 +30,11 @@ is_among uri uris = list_any (λ u. bytes_eq u uri) uris
 abbrev pub AreNew : List Text → List Text → Type 0
 AreNew taken [] = ⊤
 AreNew taken (uri ∷ uris) = (is_among uri taken ≡ false) × AreNew (taken ++ uri ∷ []) uris
+
+-- the references in a document that is at hand
+abbrev pub supplied_references : Draft → Supplied → List Reference
+supplied_references draft s = document_references s.uri draft s.value
+
+-- a reference to a file leads to one of these URIs
+abbrev pub LeadsAmong : List Text → Reference → Type 0
+LeadsAmong uris r = IsSome (path_of_uri r.uri) → is_among r.uri uris ≡ true

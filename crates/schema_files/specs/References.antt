@@ -1,6 +1,6 @@
 -- The references in a document to other documents. They stand at any depth, since a reference may
 -- lead to a schema that no keyword holds.
-use Rattle.std.specs.Prelude.{Bool, List, Some, None, Option, [], bytes_eq, codes, false, if◌then◌else◌, not, ℕ, ◌&&◌, ◌++◌, ◌+◌, ◌==◌, ◌||◌, ◌∷◌}
+use Rattle.std.specs.Prelude.{Bool, List, [], bytes_eq, codes, false, if◌then◌else◌, not, ℕ, ◌&&◌, ◌++◌, ◌+◌, ◌==◌, ◌||◌, ◌∷◌}
 use Rattle.serde_json.specs.Data.{Data, Items, Members, array, boolean, item, member, no_items, no_members, null, number, object, string}
 use Rattle.theory_definitions.specs.Drafts.{Draft}
 use Rattle.theory_definitions.specs.Instance.{Place, Text, to_item, to_member}

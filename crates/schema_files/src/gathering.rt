@@ -1,10 +1,11 @@
 //! The files that references lead to, from document to document.
-ghost use Rattle.std.specs.Prelude.{◌≡◌, ◌++◌, ◌∷◌, [], IfOk, IfSome, OnOk, map, string_bytes};
+ghost use Rattle.std.specs.Prelude.{◌≡◌, ◌++◌, ◌∷◌, [], IfOk, OnOk, flat_map, map, string_bytes};
 ghost use Rattle.theory_definitions.specs.Pointer.{pointer_to};
 ghost use Rattle.schema_drafts.specs.KeywordViews.{draft_of};
 ghost use Rattle.schema_traits.specs.Showing.{Shows};
-ghost use Rattle.schema_files.specs.Gathering.{AreNew, is_among, taken_by, taken_uris};
-ghost use Rattle.schema_files.specs.GatheringViews.{KeepsNew, supplied_of, uri_of};
+ghost use Rattle.schema_files.specs.Gathering.{AreNew, is_among, supplied_references, taken_by, taken_uris};
+ghost use Rattle.schema_files.specs.GatheringViews.{Follows, KeepsNew, LeadOn, file_references, supplied_of, uri_of};
+ghost use Rattle.schema_files.specs.ReferenceViews.{reference_of};
 
 use crate::file_uris::path_of_uri;
 use crate::references::{Reference, references_in};
@@ -139,6 +140,7 @@ impl<F: Files> Reading<'_, F> {
         })
     }
 
+    #[tactic(auto, using(crate::proofs::Following::is_linked, crate::proofs::Following::is_read, crate::proofs::Following::is_taken, crate::proofs::Following::no_file, crate::proofs::Adding::pushed))]
     /// Follows a reference, if it leads to a file that is not at hand.
     fn follow(
         &self,
@@ -147,6 +149,7 @@ impl<F: Files> Reading<'_, F> {
         files: &mut Vec<LinkedFile>,
     ) -> Result<(), OutOfMemory>
         ensures new { KeepsNew result (map string_bytes self.now.taken.now) files.old files.new }
+        ensures follows { OnOk result (Follows (map string_bytes self.now.taken.now) files.old.items files.new.items (reference_of reference.now ∷ [])) }
     {
         let uri = reference.uri.as_str();
         if is_taken(uri, self.taken) || is_linked(uri, files.as_slice()) {
@@ -160,6 +163,7 @@ impl<F: Files> Reading<'_, F> {
         Ok(())
     }
 
+    #[tactic(auto, using(crate::proofs::Following::starts, crate::proofs::Following::turn, crate::proofs::Following::turned))]
     fn follow_each(
         &self,
         from: &str,
@@ -167,6 +171,7 @@ impl<F: Files> Reading<'_, F> {
         files: &mut Vec<LinkedFile>,
     ) -> Result<(), OutOfMemory>
         ensures new { KeepsNew result (map string_bytes self.now.taken.now) files.old files.new }
+        ensures follows { OnOk result (Follows (map string_bytes self.now.taken.now) files.old.items files.new.items (map reference_of references.now)) }
     {
         for reference in references {
             self.follow(from, reference, files)?;
@@ -181,22 +186,29 @@ impl<F: Files> Reading<'_, F> {
         files: &mut Vec<LinkedFile>,
     ) -> Result<(), OutOfMemory>
         ensures new { KeepsNew result (map string_bytes self.now.taken.now) files.old files.new }
+        ensures follows { OnOk result (Follows (map string_bytes self.now.taken.now) files.old.items files.new.items
+            (supplied_references (draft_of self.now.draft) (supplied_of document.entry))) }
     {
         let references = references_in(self.alloc, document.uri, self.draft, document.value)?;
         self.follow_each(document.uri, references.as_slice(), files)
     }
 
     /// Returns the references in a file, if it has a value.
-    fn references_of(&self, file: &LinkedFile) -> Result<Vec<Reference>, OutOfMemory> {
+    fn references_of(&self, file: &LinkedFile) -> Result<Vec<Reference>, OutOfMemory>
+        ensures references { IfOk result (λ rs. map reference_of rs.items ≡ file_references (draft_of self.now.draft) file.now) }
+    {
         match &file.content {
             Ok(value) => references_in(self.alloc, file.uri.as_str(), self.draft, value),
             Err(_) => Ok(Vec::new(self.alloc)),
         }
     }
 
+    #[tactic(auto, using(crate::proofs::Following::starts, crate::proofs::Following::next_file, crate::proofs::Following::last_file))]
     /// Follows the references in the files, those of files that are added too.
     fn follow_files(&self, files: &mut Vec<LinkedFile>) -> Result<(), OutOfMemory>
         ensures new { KeepsNew result (map string_bytes self.now.taken.now) files.old files.new }
+        ensures follows { OnOk result (Follows (map string_bytes self.now.taken.now) files.old.items files.new.items
+            (flat_map (file_references (draft_of self.now.draft)) files.new.items)) }
     {
         for index in 0..usize::MAX {
             let Some(file) = files.get(index) else {
@@ -209,9 +221,12 @@ impl<F: Files> Reading<'_, F> {
         Ok(())
     }
 
+    #[tactic(auto, using(crate::proofs::Following::next_document, crate::proofs::Following::all_lead))]
     /// Returns the files that references lead to, from these documents on.
     fn files_from(&self, supplied: &[Supplied<'_>]) -> Result<Vec<LinkedFile>, OutOfMemory>
         ensures new { IfOk result (λ fs. AreNew (map string_bytes self.now.taken.now) (map uri_of fs.items)) }
+        ensures lead { IfOk result (λ fs. LeadOn (map string_bytes self.now.taken.now) (draft_of self.now.draft)
+            (map supplied_of supplied.now) fs.items) }
     {
         let mut files = Vec::new(self.alloc);
         for document in supplied {
@@ -237,6 +252,8 @@ pub fn linked_files<F: Files>(
     supplied: &[Supplied<'_>],
 ) -> Result<Vec<LinkedFile>, OutOfMemory>
     ensures new { IfOk result (λ fs. AreNew (taken_uris (draft_of draft) (map supplied_of supplied.now)) (map uri_of fs.items)) }
+    ensures lead { IfOk result (λ fs. LeadOn (taken_uris (draft_of draft) (map supplied_of supplied.now)) (draft_of draft)
+        (map supplied_of supplied.now) fs.items) }
 {
     let taken = taken_uris(alloc, draft, supplied)?;
     let reading = Reading {
