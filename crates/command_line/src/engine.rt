@@ -1,40 +1,23 @@
 //! The command, over an engine that builds validators of schemas.
 
 use crate::desk::{Desk, Stop};
-use crate::documents::{Document, documents_of};
 use crate::options::Options;
 use crate::outcomes::Outcome;
-use crate::reading::value_of;
+use crate::supplies::{Supply, supply_of};
 use crate::words::{given_words, options_in, say};
-use serde_json::Value;
 
 /// Builds validators of schemas.
 pub trait Engine {
     /// Answers by a validator of the schema, as `answer_by` does.
     ///
-    /// The schema may refer to the documents. If no validator is built, the reason is reported.
+    /// If no validator is built, the reason is reported.
     fn answer(
         &self,
         rt: &HostRuntime,
         desk: &mut Desk,
         options: &Options<'_>,
-        schema: &Value,
-        documents: &[Document<'_>],
+        supply: &Supply<'_>,
     ) -> Result<(), Stop>;
-}
-
-/// Answers by a schema, after reading the documents that it may refer to.
-fn answer_by_schema<E: Engine>(
-    rt: &HostRuntime,
-    desk: &mut Desk,
-    options: &Options<'_>,
-    engine: &E,
-    schema: &Value,
-) -> Result<(), Stop> {
-    let documents = documents_of(rt, options.resources.as_slice())?;
-    let answered = engine.answer(rt, desk, options, schema, documents.as_slice());
-    drop(documents);
-    answered
 }
 
 fn answer<E: Engine>(
@@ -43,9 +26,9 @@ fn answer<E: Engine>(
     options: &Options<'_>,
     engine: &E,
 ) -> Result<(), Stop> {
-    let schema = value_of(rt, options.schema)?;
-    let answered = answer_by_schema(rt, desk, options, engine, &schema);
-    drop(schema);
+    let supply = supply_of(rt, options)?;
+    let answered = engine.answer(rt, desk, options, &supply);
+    drop(supply);
     answered
 }
 

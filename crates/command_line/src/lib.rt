@@ -18,6 +18,7 @@ mod pages;
 mod reading;
 mod reports;
 mod styles;
+mod supplies;
 mod tally;
 mod telling;
 mod watch;
@@ -37,7 +38,8 @@ pub use reports::{
     fault_report, file_report, line_fault, line_report, unanswered_report, unread_report,
 };
 pub use styles::{Color, Paint, Style};
+pub use supplies::{Supply, supply_of};
 pub use tally::Tally;
-pub use telling::{tell, tell_unparsed, tell_unread};
+pub use telling::{tell, tell_unlinked, tell_unparsed, tell_unread};
 pub use watch::Watch;
 pub use words::{given_words, options_in, say};

@@ -92,6 +92,8 @@ pub struct Options<'w> {
     /// A file with an instance on each line.
     pub lines: Option<&'w str>,
     pub resources: Vec<Resource<'w>>,
+    /// Whether files are read that references of the schema lead to.
+    pub linked: bool,
     /// The draft of the schema, whatever its `$schema` says.
     pub draft: Option<Draft>,
     /// Whether formats are asserted, if that is chosen.

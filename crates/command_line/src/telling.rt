@@ -2,6 +2,7 @@
 
 use crate::desk::Stop;
 use crate::reports::fault_report;
+use schema_files::LinkedFile;
 use schema_reports::OutOfMemory;
 use std::alloc::Global;
 use std::fmt;
@@ -52,4 +53,30 @@ pub fn tell_unparsed(rt: &HostRuntime, file: &str, fault: &serde_json::Error) ->
         return Stop::OutOfMemory;
     }
     tell(rt, file, "is not JSON", fault, PARSED)
+}
+
+/// Returns why a reference leads to no value.
+fn unlinked_text(alloc: Global, file: &LinkedFile, why: &str) -> Result<String, OutOfMemory> {
+    let reference = file.reference(alloc)?;
+    let text = format!(in alloc; "{reference} leads to this file, which {why}");
+    drop(reference);
+    text
+}
+
+/// Reports that a schema is refused, and that a file that it refers to has no value.
+pub fn tell_unlinked<W: fmt::Display>(
+    rt: &HostRuntime,
+    schema: &str,
+    refused: &W,
+    file: &LinkedFile,
+    why: &str,
+) -> Stop {
+    match unlinked_text(rt.alloc(), file, why) {
+        Ok(hint) => {
+            let stop = tell(rt, schema, "is refused", refused, hint.as_str());
+            drop(hint);
+            stop
+        }
+        Err(_refused) => Stop::OutOfMemory,
+    }
 }

@@ -76,6 +76,11 @@ fn resource_option<'a>(alloc: Global) -> Arg<'a> {
     option(alloc, "resource", "URI=FILE", help).action(ArgAction::Append)
 }
 
+fn unlinked_flag<'a>(alloc: Global) -> Arg<'a> {
+    let help = "Reads no file that only a reference of the schema names";
+    flag(alloc, "no-files", help)
+}
+
 fn draft_option<'a>(alloc: Global) -> Arg<'a> {
     let help = "The draft of the schema, whatever its $schema says; else that one, or 2020-12";
     option(alloc, "draft", "DRAFT", help).value_parser(DRAFTS.as_slice())
@@ -157,7 +162,8 @@ fn files<'a>(alloc: Global, command: Command<'a>) -> Result<Command<'a>, OutOfMe
     let command = command.arg(file_words(alloc))?;
     let command = command.arg(instance_option(alloc))?;
     let command = command.arg(lines_option(alloc))?;
-    command.arg(resource_option(alloc))
+    let command = command.arg(resource_option(alloc))?;
+    command.arg(unlinked_flag(alloc))
 }
 
 /// Adds the options that choose how schemas are read.
@@ -264,6 +270,7 @@ fn options_of<'w>(
         instances: instances_of(alloc, matches)?,
         lines: matches.get_str("lines"),
         resources,
+        linked: !matches.get_flag("no-files"),
         draft: matches.get_str("draft").and_then(draft_named),
         formats: formats_of(matches),
         output: matches
