@@ -21,6 +21,7 @@ import subprocess
 import sys
 import tempfile
 import time
+import urllib.request
 from pathlib import Path
 
 FILES = {
@@ -64,6 +65,22 @@ FILES = {
     "own.json": '{"$schema": "https://e.example/meta", "type": "integer"}',
     "meta.json": '{"$id": "https://e.example/meta", "$schema": "http://json-schema.org/draft-07/schema#"}',
     "mail.json": '{"format": "email"}',
+    "linked/person.json": '{"properties": {"home": {"$ref": "address.json"}, "name": {"$ref": "defs/common.json#/$defs/name"}}}',
+    "linked/address.json": '{"properties": {"town": {"$ref": "defs/common.json#/$defs/name"}, "owner": {"$ref": "person.json"}}}',
+    "linked/defs/common.json": '{"$defs": {"name": {"type": "string"}}}',
+    "linked/moved.json": '{"$id": "defs/moved.json", "$ref": "common.json#/$defs/name"}',
+    "linked/inner.json": '{"$ref": "#/$defs/a", "$defs": {"a": {"$id": "defs/", "$ref": "common.json#/$defs/name"}}}',
+    "linked/remote.json": '{"$id": "https://e.example/remote", "$ref": "address.json"}',
+    "linked/spaced.json": '{"$ref": "of%20a%20name.json"}',
+    "linked/of a name.json": '{"type": "string"}',
+    "linked/lost.json": '{"properties": {"a/b": {"$ref": "gone.json"}}}',
+    "linked/indirect.json": '{"$ref": "lost.json"}',
+    "linked/torn.json": '{"$ref": "../cut.json"}',
+    "linked/bytes.json": '{"$ref": "../bytes.lines"}',
+    "linked/folder.json": '{"$ref": "defs"}',
+    "linked/unasked.json": '{"enum": [1, {"$ref": "gone.json"}], "$defs": {"a": {"$ref": "gone.json"}}}',
+    "linked/own.json": '{"$schema": "file:///nowhere/meta.json", "type": "string"}',
+    "home.json": '{"name": "Ann", "home": {"town": "Bonn", "owner": {"home": {"town": 3}}}}',
 }
 
 LINES_TEXT = (
@@ -214,13 +231,41 @@ ROWS = [
     ("a file and lines", ["number.json", "-i", "1.json", "--lines", "good.lines"], "", 0,
      "1.json - VALID\ngood.lines: 3 lines: 0 refused, 0 unanswered\n", []),
     ("a folder for a schema", ["."], "", 2, "", [". cannot be read: "]),
+    ("files beside the schema, in a circle", ["linked/person.json", "home.json"], "", 1,
+     'home.json - INVALID. Errors:\n1. 3 is not of type "string"\n   instance: /home/owner/home/town; schema: /$defs/name/type\n', []),
+    ("files beside the schema, and all is accepted", ["linked/person.json", "ann.json"], "", 0, "ann.json - VALID\n", []),
+    ("a way with dots to the schema", ["folder/../linked/./person.json", "home.json", "--quiet"], "", 1, "", []),
+    ("files beside a schema from standard input", ["-", "home.json", "--quiet"], '{"$ref": "linked/person.json"}', 1, "", []),
+    ("no files beside a document of the web", ["refers.json", "--resource", "https://e.example/other=linked/remote.json"], "", 2, "",
+     ["https://e.example/address.json", "--resource URI=FILE"]),
+    ("no files are read", ["linked/person.json", "--no-files"], "", 2, "",
+     ["linked/person.json is refused: ", "under the URI file:///", "/linked/address.json"]),
+    ("no files are read, and none is asked for", ["number.json", "1.json", "--no-files"], "", 0, "1.json - VALID\n", []),
+    ("an identifier of the schema, against which references are resolved", ["linked/moved.json", "1.json", "--quiet"], "", 1, "", []),
+    ("an identifier inside the schema", ["linked/inner.json", "1.json", "--quiet"], "", 1, "", []),
+    ("a schema of the web leads to no file", ["linked/remote.json"], "", 2, "", ["https://e.example/address.json", "--resource URI=FILE"]),
+    ("a name with spaces", ["linked/spaced.json", "1.json", "--quiet"], "", 1, "", []),
+    ("a file that is missing", ["linked/lost.json", "1.json"], "", 2, "",
+     ["linked/lost.json is refused: ", "/linked/gone.json\nhint: file:///", "/linked/lost.json#/properties/a~1b/$ref leads to this file",
+      "which cannot be read: No such file or directory"]),
+    ("a file that is missing, from another file", ["linked/indirect.json", "1.json"], "", 2, "",
+     ["linked/indirect.json is refused: ", "/linked/lost.json#/properties/a~1b/$ref leads to this file"]),
+    ("a file that is not JSON", ["linked/torn.json", "1.json"], "", 2, "",
+     ["/linked/torn.json#/$ref leads to this file, which is not JSON: ", "line 2 column"]),
+    ("a file that is not UTF-8", ["linked/bytes.json", "1.json"], "", 2, "",
+     ["/linked/bytes.json#/$ref leads to this file, which is not JSON: "]),
+    ("a folder that is referred to", ["linked/folder.json", "1.json"], "", 2, "",
+     ["/linked/folder.json#/$ref leads to this file, which cannot be read: Is a directory"]),
+    ("a file that is missing, and is not asked for", ["linked/unasked.json", "1.json"], "", 0, "1.json - VALID\n", []),
+    ("a meta-schema that is missing", ["linked/own.json", "1.json"], "", 2, "",
+     ["/linked/own.json#/$schema leads to this file, which cannot be read: "]),
 ]
 
 
 def fill(folder):
     """Writes the files that the calls name."""
     for name, text in FILES.items():
-        (folder / name).parent.mkdir(exist_ok=True)
+        (folder / name).parent.mkdir(parents=True, exist_ok=True)
         (folder / name).write_bytes(text if isinstance(text, bytes) else text.encode())
 
 
@@ -344,7 +389,25 @@ def little_memory(program, folder):
     return None if done.returncode == 2 and "memory" in told else f"status {done.returncode}, standard error {told!r}"
 
 
+def from_elsewhere(program, folder):
+    """What goes otherwise where the files beside a schema are read from another directory, or one of them is handed over."""
+    there, here = folder / "linked", folder / "linked" / "defs"
+    address = "file://" + urllib.request.pathname2url(str(there.resolve() / "address.json"))
+    rows = [
+        (["../person.json", "../../home.json"], here, 1),
+        ([str(there / "person.json"), str(folder / "home.json")], Path("/"), 1),
+        (["person.json", "../home.json"], there, 1),
+        (["person.json", "../home.json", "--resource", f"{address}=../true.json"], there, 0),
+    ]
+    for words, place, status in rows:
+        done = subprocess.run([program, *words, "--quiet"], capture_output=True, cwd=place, timeout=60, check=False)
+        if done.returncode != status:
+            return f"{words} in {place}: status {done.returncode}, wanted {status}, standard error {done.stderr.decode()!r}"
+    return None
+
+
 CALLS = {
+    "files from elsewhere": from_elsewhere,
     "a write that fails": failed_write,
     "a pipe that nobody reads": closed_pipe,
     "a terminal": on_a_terminal,

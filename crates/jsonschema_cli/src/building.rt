@@ -1,10 +1,10 @@
 //! Builds the validator of the schema, and answers by it.
 
 use crate::validating::Validating;
-use command_line::{Desk, Document, Engine, Options, Stop, answer_by, tell};
+use command_line::{Desk, Document, Engine, Options, Stop, Supply, answer_by, tell, tell_unlinked};
 use jsonschema::{BuildError, BuildOptions, MetaError, options as build_options};
 use schema_engine::{BuildError as EngineError, OutOfMemory};
-use serde_json::Value;
+use schema_files::LinkedFile;
 use std::alloc::Global;
 
 /// Sets the limit on runs, if one is given that is at least 1.
@@ -40,11 +40,25 @@ fn with_documents<'a>(
     Ok(chosen)
 }
 
+/// Adds the files that have values.
+fn with_files<'a>(
+    chosen: BuildOptions<'a>,
+    files: &'a [LinkedFile],
+) -> Result<BuildOptions<'a>, OutOfMemory> {
+    let mut chosen = chosen;
+    for file in files {
+        if let Ok(value) = &file.content {
+            chosen = chosen.with_document(file.uri.as_str(), value)?;
+        }
+    }
+    Ok(chosen)
+}
+
 /// Returns the options of the build that the command's words ask for.
 fn chosen_by<'a>(
     alloc: Global,
     options: &Options<'_>,
-    documents: &'a [Document<'_>],
+    supply: &'a Supply<'_>,
 ) -> Result<BuildOptions<'a>, OutOfMemory> {
     let mut chosen = build_options(alloc).should_validate_schema(options.checked);
     if let Some(draft) = options.draft {
@@ -53,7 +67,9 @@ fn chosen_by<'a>(
     if let Some(asserted) = options.formats {
         chosen = chosen.should_validate_formats(asserted);
     }
-    with_documents(with_limits(chosen, options), documents)
+    let chosen = with_limits(chosen, options).with_base_uri(supply.uri.as_str())?;
+    let chosen = with_documents(chosen, supply.documents.as_slice())?;
+    with_files(chosen, supply.files.as_slice())
 }
 
 /// Returns advice to the user about a refusal of the schema.
@@ -86,12 +102,45 @@ fn refuse_metas(rt: &HostRuntime, fault: &MetaError) -> Stop {
     )
 }
 
-/// Reports why there is no validator.
-fn refuse(rt: &HostRuntime, options: &Options<'_>, refused: &BuildError) -> Stop {
-    match refused {
-        BuildError::Refused(refused) => {
-            tell(rt, options.schema, "is refused", refused, hint_of(refused))
+/// Returns the file that a refusal is about, and why it has no value.
+fn unlinked<'f>(
+    refused: &EngineError,
+    files: &'f [LinkedFile],
+) -> Option<(&'f LinkedFile, &'f str)> {
+    let EngineError::Lookup(text) = refused else {
+        return None;
+    };
+    for file in files {
+        if let Err(why) = &file.content {
+            if text.ends_with(file.uri.as_str()) {
+                return Some((file, why.as_str()));
+            }
         }
+    }
+    None
+}
+
+fn refuse_schema(
+    rt: &HostRuntime,
+    options: &Options<'_>,
+    supply: &Supply<'_>,
+    refused: &EngineError,
+) -> Stop {
+    match unlinked(refused, supply.files.as_slice()) {
+        Some((file, why)) => tell_unlinked(rt, options.schema, refused, file, why),
+        None => tell(rt, options.schema, "is refused", refused, hint_of(refused)),
+    }
+}
+
+/// Reports why there is no validator.
+fn refuse(
+    rt: &HostRuntime,
+    options: &Options<'_>,
+    supply: &Supply<'_>,
+    refused: &BuildError,
+) -> Stop {
+    match refused {
+        BuildError::Refused(refused) => refuse_schema(rt, options, supply, refused),
         BuildError::MetaSchemas(fault) => refuse_metas(rt, fault),
         BuildError::OutOfMemory => Stop::OutOfMemory,
     }
@@ -102,9 +151,9 @@ fn answer_chosen(
     desk: &mut Desk,
     options: &Options<'_>,
     chosen: BuildOptions<'_>,
-    schema: &Value,
+    supply: &Supply<'_>,
 ) -> Result<(), Stop> {
-    match chosen.build(schema) {
+    match chosen.build(&supply.schema) {
         Ok(validator) => {
             let asked = Validating {
                 validator: &validator,
@@ -114,7 +163,7 @@ fn answer_chosen(
             answered
         }
         Err(refused) => {
-            let stop = refuse(rt, options, &refused);
+            let stop = refuse(rt, options, supply, &refused);
             drop(refused);
             Err(stop)
         }
@@ -130,11 +179,10 @@ impl Engine for Standard {
         rt: &HostRuntime,
         desk: &mut Desk,
         options: &Options<'_>,
-        schema: &Value,
-        documents: &[Document<'_>],
+        supply: &Supply<'_>,
     ) -> Result<(), Stop> {
-        match chosen_by(rt.alloc(), options, documents) {
-            Ok(chosen) => answer_chosen(rt, desk, options, chosen, schema),
+        match chosen_by(rt.alloc(), options, supply) {
+            Ok(chosen) => answer_chosen(rt, desk, options, chosen, supply),
             Err(_refused) => Err(Stop::OutOfMemory),
         }
     }
