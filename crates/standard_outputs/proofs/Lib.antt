@@ -1,0 +1,4 @@
+mod Flags
+mod Slashes
+mod Hashes
+mod Nodes

@@ -1,0 +1,5 @@
+pub mod KeywordUnits
+pub mod Basic
+pub mod Hierarchical
+pub mod CodeViews
+pub mod Rows
