@@ -135,7 +135,7 @@ ROWS = [
     ("no words", [], "", 2, "", ["<SCHEMA>", "Usage: jsonschema"]),
     ("a word that is none", ["number.json", "--instanc", "1.json"], "", 2, "", ["--instance"]),
     ("a draft that is none", ["number.json", "--draft", "5"], "", 2, "", ["2019-09"]),
-    ("an output that is none", ["number.json", "--output", "basic"], "", 2, "", ["text, flag, list"]),
+    ("an output that is none", ["number.json", "--output", "detailed"], "", 2, "", ["text, flag, list, basic, hierarchical"]),
     ("a limit that is none", ["number.json", "--run-limit", "0"], "", 2, "", ["--run-limit"]),
     ("a resource that is none", ["number.json", "--resource", "other.json"], "", 2, "", ["URI=FILE"]),
     ("progress of nothing", ["number.json", "--progress"], "", 2, "", ["--lines"]),
@@ -206,6 +206,15 @@ ROWS = [
      '{"output":"flag","schema":"number.json","instance":"1.json","payload":{"valid":true}}\n', []),
     ("list", ["number.json", "--output", "list", "-i", "text.json"], "", 1,
      {"output": "list", "schema": "number.json", "instance": "text.json", "valid": False}, []),
+    ("basic", ["number.json", "--output", "basic", "-i", "text.json"], "", 1,
+     '{"output":"basic","schema":"number.json","instance":"text.json","payload":{"errors":['
+     '{"error":"A subschema had errors.","instanceLocation":"","keywordLocation":"","valid":false},'
+     '{"error":"\\"text\\" is not of type \\"number\\"","instanceLocation":"","keywordLocation":"/type","valid":false}'
+     '],"instanceLocation":"","keywordLocation":"","valid":false}}\n', []),
+    ("hierarchical", ["number.json", "--output", "hierarchical", "-i", "text.json"], "", 1,
+     '{"output":"hierarchical","schema":"number.json","instance":"text.json","payload":{"errors":{'
+     '"type":"\\"text\\" is not of type \\"number\\""},'
+     '"evaluationPath":"","instanceLocation":"","schemaLocation":"","valid":false}}\n', []),
     ("text that rules a terminal", ["person.json", "-i", "bell.json"], "", 1,
      'bell.json - INVALID. Errors:\n1. "\\u001b[31m" is not of type "integer"\n   instance: /age; schema: /properties/age/type\n', []),
     ("a line feed in a name", ["key.json", "-i", "fed.json"], "", 1,

@@ -14,6 +14,8 @@ abbrev pub name_of : Output → Text
 name_of output.Text = codes "text"
 name_of output.Flag = codes "flag"
 name_of output.List = codes "list"
+name_of output.Basic = codes "basic"
+name_of output.Hierarchical = codes "hierarchical"
 
 -- the output that a word chooses
 abbrev pub output_named : Text → Option Output
@@ -21,6 +23,8 @@ output_named name =
     if bytes_eq name (codes "text") then Some output.Text
     else if bytes_eq name (codes "flag") then Some output.Flag
     else if bytes_eq name (codes "list") then Some output.List
+    else if bytes_eq name (codes "basic") then Some output.Basic
+    else if bytes_eq name (codes "hierarchical") then Some output.Hierarchical
     else None
 
 -- the draft that a word chooses: its number, or its year and month

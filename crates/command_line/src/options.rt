@@ -18,6 +18,10 @@ pub enum Output {
     Flag,
     /// The list of units, in JSON.
     List,
+    /// The units that have the verdict, in JSON, as drafts 2019-09 and 2020-12 list them.
+    Basic,
+    /// The units of schema objects, one inside the other, in JSON.
+    Hierarchical,
 }
 
 impl Output {
@@ -29,6 +33,8 @@ impl Output {
             Output::Text => "text",
             Output::Flag => "flag",
             Output::List => "list",
+            Output::Basic => "basic",
+            Output::Hierarchical => "hierarchical",
         }
     }
 
@@ -40,6 +46,8 @@ impl Output {
             "text" => Some(Output::Text),
             "flag" => Some(Output::Flag),
             "list" => Some(Output::List),
+            "basic" => Some(Output::Basic),
+            "hierarchical" => Some(Output::Hierarchical),
             _ => None,
         }
     }

@@ -14,7 +14,7 @@ use std::{env, io};
 
 static DRAFTS: [&str; 5] = ["4", "6", "7", "2019-09", "2020-12"];
 
-static OUTPUTS: [&str; 3] = ["text", "flag", "list"];
+static OUTPUTS: [&str; 5] = ["text", "flag", "list", "basic", "hierarchical"];
 
 static COLORS: [&str; 3] = ["auto", "always", "never"];
 

@@ -61,3 +61,5 @@ module _ {C Run K M : Type 0} (keywords : KeywordMembers C Run K) (matchers : Ma
   HasAnswer output.Text (Some line) = HasFirst
   HasAnswer output.Flag line = HasVerdict
   HasAnswer output.List line = HasUnit
+  HasAnswer output.Basic line = HasUnit
+  HasAnswer output.Hierarchical line = HasUnit

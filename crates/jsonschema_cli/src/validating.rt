@@ -9,9 +9,10 @@ use command_line::{
     unanswered, unanswered_report,
 };
 use jsonschema::StandardValidator;
-use schema_engine::{CallError, CallLimit, OutOfMemory, Validate, limit_text};
+use schema_engine::{CallError, CallLimit, Evaluation, OutOfMemory, Validate, limit_text};
 use serde_json::Value;
 use standard_keywords::StandardKeyword;
+use standard_outputs::{basic_text, hierarchical_text};
 use std::alloc::{AllocError, Global};
 
 /// Answers for instances with this validator.
@@ -34,6 +35,19 @@ fn limit_report(
     };
     drop(why);
     text
+}
+
+/// Returns the units of an evaluation in the format of an output, or else as a list.
+fn units_text(
+    alloc: Global,
+    output: Output,
+    evaluation: &Evaluation,
+) -> Result<String, OutOfMemory> {
+    match output {
+        Output::Basic => basic_text(alloc, evaluation.root()),
+        Output::Hierarchical => hierarchical_text(alloc, evaluation.root()),
+        _ => evaluation.list_text(alloc),
+    }
 }
 
 impl Validating<'_> {
@@ -118,8 +132,8 @@ impl Validating<'_> {
         }
     }
 
-    /// Returns the list of an instance's units, in JSON.
-    fn list(&self, alloc: Global, style: Style, subject: Subject<'_>, instance: &Value) -> Answer
+    /// Returns an instance's units, in JSON.
+    fn units(&self, alloc: Global, style: Style, subject: Subject<'_>, instance: &Value) -> Answer
         ensures unit { IfOk result (λ a. AnswersBy self.now.validator.now
             (HasUnit ⟦<StandardKeyword as Validate>⟧ regexes self.now.validator.now instance.now) a.0) }
     {
@@ -127,9 +141,9 @@ impl Validating<'_> {
         match self.validator.evaluate_within(alloc, instance, &mut work) {
             Ok(evaluation) => {
                 let accepted = evaluation.is_valid();
-                let list = evaluation.list_text(alloc);
+                let units = units_text(alloc, style.output, &evaluation);
                 drop(evaluation);
-                let text = answered(alloc, Output::List, subject, list?.as_str())?;
+                let text = answered(alloc, style.output, subject, units?.as_str())?;
                 Ok((Outcome::of(accepted), text))
             }
             Err(failure) => self.stopped(alloc, style, subject, failure),
@@ -152,7 +166,9 @@ impl Answerer for Validating<'_> {
             (Output::Text, None) => self.errors(alloc, style, subject, instance),
             (Output::Text, Some(_line)) => self.first_error(alloc, style, subject, instance),
             (Output::Flag, _) => self.verdict(alloc, style, subject, instance),
-            (Output::List, _) => self.list(alloc, style, subject, instance),
+            (Output::List | Output::Basic | Output::Hierarchical, _) => {
+                self.units(alloc, style, subject, instance)
+            }
         }
     }
 }
