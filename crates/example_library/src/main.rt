@@ -34,11 +34,33 @@ fn main(rt: HostRuntime) -> anyhow::Result<()> {
     for error in validator.iter_errors(alloc, &instance)? {
         println!(rt; "{}: {error}", error.instance_path(alloc)?.as_str())?;
     }
+    explain(&rt, &validator, &instance)?;
     let kept = keep(alloc, validator, contact(alloc)?)?;
     let mails = Value::from_str(alloc, MAILS)?;
     for validator in &kept.validators {
         let accepted = validator.is_valid(alloc, &mails)?;
         println!(rt; "accepted: {accepted}")?;
+    }
+    Ok(())
+}
+
+/// Prints the causes of each error, and the one that lies deepest in the instance.
+fn explain(
+    rt: &HostRuntime,
+    validator: &StandardValidator,
+    instance: &Value,
+) -> anyhow::Result<()> {
+    let alloc = rt.alloc();
+    let evaluation = validator.evaluate(alloc, instance)?;
+    for error in validator.iter_errors(alloc, instance)? {
+        let causes = jsonschema::causes(alloc, &evaluation, &error)?;
+        for cause in &causes {
+            let path = cause.unit.evaluation_path.as_str();
+            println!(rt; "{path}: {}", cause.error.text)?;
+        }
+        if let Some(best) = jsonschema::best_match(&causes) {
+            println!(rt; "deepest: {}", best.error.text)?;
+        }
     }
     Ok(())
 }

@@ -17,5 +17,8 @@ pub use build_options::{BuildOptions, options};
 pub use building::StandardValidator;
 pub use calls::{evaluate, is_valid, iter_errors, validate, validator_for};
 pub use error::BuildError;
-pub use schema_engine::{Draft, ErrorIterator, Evaluation, Location, OutOfMemory, ValidationError};
+pub use error_causes::{best_match, causes};
+pub use schema_engine::{
+    Draft, ErrorEntry, ErrorIterator, Evaluation, Location, OutOfMemory, ValidationError,
+};
 pub use standard_meta::{MetaDocuments, MetaError, MetaSchemas};
