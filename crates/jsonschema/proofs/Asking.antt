@@ -16,10 +16,10 @@ use Rattle.schema_validator.specs.Greatest.{DecidesAccepted, ErrorsAccepted, Eva
 use Rattle.standard_keywords.specs.declared.table.StandardTable.{StandardTable}
 use Rattle.standard_meta.specs.DraftMeanings.{regexes}
 use Rattle.standard_resolver.specs.ResolverDocuments.{HeldDocuments}
-use Rattle.jsonschema.proofs.Handing.{unrefused_refuses}
+use Rattle.jsonschema.proofs.Checking.{unrefused_checked}
 use Rattle.jsonschema.specs.BuildOptions.{no_options}
-use Rattle.jsonschema.specs.Built.{IsNoValidatorOf, IsValidatorOf}
 use Rattle.jsonschema.specs.Calls.{AreErrorsOf, IsEvaluationOf, IsFirstErrorOf, IsVerdictOf}
+use Rattle.jsonschema.specs.Checked.{IsNoValidatorOf, IsValidatorOf}
 use Rattle.jsonschema.specs.Refusing.{IsUnrefused}
 use Rattle.jsonschema.specs.declared.error.BuildError.{BuildError}
 
@@ -30,7 +30,7 @@ module _ {State S C Maker Run K : Type 0} (resolvers : ResolverMembers HeldDocum
   unrefused_call b none = record {
     metas = built.metas;
     each = built.each;
-    refused = unrefused_refuses resolvers tables keywords _ no_options schema b none;
+    refused = unrefused_checked resolvers tables keywords built.metas no_options schema b none;
   }
 
   module _ {E : Type 0} (instance : Value) where

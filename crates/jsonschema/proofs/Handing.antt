@@ -19,7 +19,7 @@ use Rattle.jsonschema.specs.Built.{AreStandard, IsBuiltFrom, IsBuiltOf, IsRefuse
 use Rattle.jsonschema.specs.Refusing.{IsUnrefused, Tells, TellsOf}
 use Rattle.jsonschema.specs.Sources.{SchemaSources, with_documents}
 use Rattle.jsonschema.specs.declared.error.BuildError.{BuildError}
-use Rattle.jsonschema.specs.declared.error.BuildError.TheVariants.{MetaSchemas, OutOfMemory, Refused}
+use Rattle.jsonschema.specs.declared.error.BuildError.TheVariants.{MetaSchemaRefused, MetaSchemaUnfit, MetaSchemas, OutOfMemory, Refused}
 
 -- ---- results that are told
 
@@ -74,6 +74,8 @@ module _ {State S C Maker Run K : Type 0} (resolvers : ResolverMembers HeldDocum
     pub tells_refused : (e : engine.BuildError) (b : BuildError) → Tells e b → IsRefusedFrom resolvers tables keywords refuses o schema e
         → RefusesFrom resolvers tables keywords refuses o schema b
     tells_refused e (Refused x) same refused = subst (λ y. IsRefusedFrom resolvers tables keywords refuses o schema y) (sym same) refused
+    tells_refused e (MetaSchemaRefused uri x) tells refused = absurd tells
+    tells_refused e (MetaSchemaUnfit uri) tells refused = absurd tells
     tells_refused e (MetaSchemas x) tells refused = absurd tells
     tells_refused e OutOfMemory tells refused = tt
 
@@ -85,5 +87,7 @@ module _ {State S C Maker Run K : Type 0} (resolvers : ResolverMembers HeldDocum
     -- so does one that refuses no schema
     pub unrefused_refuses : (b : BuildError) → IsUnrefused b → RefusesFrom resolvers tables keywords refuses o schema b
     unrefused_refuses (Refused x) none = absurd none
+    unrefused_refuses (MetaSchemaRefused uri x) none = absurd none
+    unrefused_refuses (MetaSchemaUnfit uri) none = absurd none
     unrefused_refuses (MetaSchemas x) none = tt
     unrefused_refuses OutOfMemory none = tt

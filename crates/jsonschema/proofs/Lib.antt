@@ -1,3 +1,4 @@
 pub mod Asking
 pub mod Builds
+pub mod Checking
 pub mod Handing

@@ -1,7 +1,7 @@
 -- What a build promises of its validator: the clauses of `ValidationOptions::build` in one record,
 -- over a resolver and a matcher; and then over sources, with a resolver that holds their documents
 -- and the matcher of their patterns. The table is the standard's. (Core 2020-12, 8.2)
-use Rattle.std.specs.Prelude.{List, [], true, ◌≡◌, ◌⊎◌}
+use Rattle.std.specs.Prelude.{List, [], ◌≡◌, ◌⊎◌}
 use Rattle.serde_json.specs.Data.{Data}
 use Rattle.serde_json.specs.View.{view}
 use Rattle.serde_json.specs.declared.value.Value.{Value}
@@ -21,13 +21,13 @@ use Rattle.schema_compiled.specs.Program.{Program}
 use Rattle.standard_resolver.specs.ResolverDocuments.{HeldDocuments}
 use Rattle.standard_keywords.specs.declared.table.StandardTable.{StandardTable}
 use Rattle.standard_resolver.specs.ResolverDocuments.{GivenDocument}
-use Rattle.meta_checker.specs.DraftChecks.{DraftPrograms, EachChecks, checked_by}
-use Rattle.standard_meta.specs.DraftMeanings.{MeansDraft, handed_by, regexes}
+use Rattle.meta_checker.specs.DraftChecks.{DraftPrograms, EachChecks}
+use Rattle.standard_meta.specs.DraftMeanings.{MeansDraft, handed_by}
 use Rattle.standard_meta.specs.MetaDocuments.{AreRead, known_drafts, texts_of_each}
-use Rattle.jsonschema.specs.BuildOptions.{BuildOptions, HasNeeded, needed_draft, sources_of}
+use Rattle.jsonschema.specs.BuildOptions.{BuildOptions, sources_of}
 use Rattle.jsonschema.specs.Sources.{IsResolverOf, SchemaSources, options_by, values_of, with_documents}
 use Rattle.jsonschema.specs.declared.error.BuildError.{BuildError}
-use Rattle.jsonschema.specs.declared.error.BuildError.TheVariants.{MetaSchemas, OutOfMemory, Refused}
+use Rattle.jsonschema.specs.declared.error.BuildError.TheVariants.{MetaSchemaRefused, MetaSchemaUnfit, MetaSchemas, OutOfMemory, Refused}
 
 -- the matcher of the sources' patterns; it leaves a match unfinished if it takes too many steps,
 -- which needs a back reference
@@ -88,27 +88,10 @@ module _ {State S C Maker Run K : Type 0} (resolvers : ResolverMembers HeldDocum
       pub refused : (e ≡ memory.OutOfMemory) ⊎ IsRefusedOf resolvers tables keywords refuses o.engine (with_documents (sources_of o schema) standard) e
 
     -- an error that refuses the schema names the engine's; the others say that the check could not
-    -- be made, or that memory was refused
+    -- be made, or that memory was refused; no supplied meta-schema is to blame
     abbrev pub RefusesFrom : BuildError → Type 0
     RefusesFrom (Refused e) = IsRefusedFrom e
+    RefusesFrom (MetaSchemaRefused uri e) = ⊥
+    RefusesFrom (MetaSchemaUnfit uri) = ⊥
     RefusesFrom (MetaSchemas e) = Unit {0}
     RefusesFrom OutOfMemory = Unit {0}
-
-  module _ (o : BuildOptions) (schema : Value) where
-    -- the check is by the meta-schemas that these programs mean, among them those that it needs
-    pub record IsBuiltWith (ps : DraftPrograms C Treatment) (p : Program C Treatment) : Type 0 where
-      pub needed : o.engine.checks ≡ true → HasNeeded (needed_draft o (view schema)) ps
-      pub from : IsBuiltFrom (checked_by keywords regexes ps) o schema p
-
-    -- the validator is built from the schema by these options, and the check of the schema is by
-    -- the meta-schemas of the standard
-    pub record IsValidatorOf (p : Program C Treatment) : Type 0 where
-      pub metas : DraftPrograms C Treatment
-      pub each : EachMeans metas
-      pub built : IsBuiltWith metas p
-
-    -- the error refuses such a build
-    pub record IsNoValidatorOf (e : BuildError) : Type 0 where
-      pub metas : DraftPrograms C Treatment
-      pub each : EachMeans metas
-      pub refused : RefusesFrom (checked_by keywords regexes metas) o schema e

@@ -18,7 +18,7 @@ use Rattle.standard_resolver.specs.ResolverDocuments.{HeldDocuments}
 use Rattle.standard_keywords.specs.declared.table.StandardTable.{StandardTable}
 use Rattle.standard_meta.specs.DraftMeanings.{regexes}
 use Rattle.jsonschema.specs.BuildOptions.{no_options}
-use Rattle.jsonschema.specs.Built.{IsValidatorOf}
+use Rattle.jsonschema.specs.Checked.{IsValidatorOf}
 
 module _ {State S C Maker Run K : Type 0} (resolvers : ResolverMembers HeldDocuments State S) (tables : TableMembers StandardTable C Maker Run K)
     (keywords : KeywordMembers C Run K) (schema instance : Value) where

@@ -5,10 +5,11 @@ ghost use Rattle.standard_subschemas.specs.declared.rules.Rule.TheVariants.{Stan
 ghost use Rattle.schema_keys.specs.declared.error.BuildError.TheVariants.{OutOfMemory};
 ghost use Rattle.schema_traits.specs.Showing.{Yields};
 ghost use Rattle.schema_drafts.specs.KeywordViews.{draft_of};
-ghost use Rattle.meta_checker.specs.DraftChecks.{checked_by};
-ghost use Rattle.standard_meta.specs.DraftMeanings.{regexes};
+ghost use Rattle.schema_traits.specs.MatcherViews.{FinishesEach};
+ghost use Rattle.pattern_matcher.specs.PatternMatching.{pattern_matcher};
 ghost use Rattle.jsonschema.specs.Built.{IsBuilt, IsBuiltOf, IsRefused, IsRefusedOf, matcher_of};
-ghost use Rattle.jsonschema.specs.Built.{AreStandard, EachMeans, IsBuiltFrom, IsBuiltWith, IsNoValidatorOf, IsValidatorOf, RefusesFrom};
+ghost use Rattle.jsonschema.specs.Built.{AreStandard, EachMeans, IsBuiltFrom, RefusesFrom};
+ghost use Rattle.jsonschema.specs.Checked.{IsBuiltWith, IsChecked, IsNoValidatorOf, IsValidatorOf, RefusesChecked};
 ghost use Rattle.jsonschema.specs.BuildOptions.{HasNeeded, if_known, needed_draft, root_draft_of, sources_of};
 ghost use Rattle.jsonschema.specs.Refusing.{IsUnrefused, TellsOf};
 ghost use Rattle.jsonschema.specs.Sources.{default_draft_of, options_by, set_draft, uri_of};
@@ -33,6 +34,21 @@ use std::alloc::Global;
 
 /// A validator with the standard's keywords and regular expressions.
 pub type StandardValidator = Validator<StandardKeyword, PatternMatcher>;
+
+/// A validator that was built, and the matcher that it was built with.
+#[derive(Drop)]
+pub(crate) struct Built {
+    pub(crate) validator: StandardValidator,
+    pub(crate) matcher: PatternMatcher,
+    ghost finishes: { FinishesEach (pattern_matcher matcher) → FinishesEach (pattern_matcher validator.matcher) },
+}
+
+/// Returns the validator alone.
+pub(crate) fn validator_in(built: Built) -> StandardValidator
+    ensures validator { result ≡ built.validator }
+{
+    built.validator
+}
 
 /// Returns the schema's URI: the one that is set, or else `json-schema:///`.
 fn uri_of<'s>(sources: &'s Sources<'_>) -> &'s str
@@ -119,6 +135,7 @@ fn build_by<'p, V: MetaValidators>(
 ) -> Result<StandardValidator, EngineError>
     ensures built { IfOk result (IsBuilt ⟦<DocumentResolver<'p> as Resolver>⟧ ⟦<StandardTable as KeywordTable<StandardKeyword>>⟧
         ⟦<StandardKeyword as Validate>⟧ resolver.now matcher.now (V.checked metas.now) options.now (view schema.now)) }
+    ensures finishes { IfOk result (λ v. FinishesEach (pattern_matcher matcher.now) → FinishesEach (pattern_matcher v.matcher)) }
     ensures refused { IfErr result (λ e. (e ≡ OutOfMemory) ⊎ IsRefused ⟦<DocumentResolver<'p> as Resolver>⟧
         ⟦<StandardTable as KeywordTable<StandardKeyword>>⟧ ⟦<StandardKeyword as Validate>⟧ resolver.now matcher.now (V.checked metas.now)
         options.now (view schema.now) e) }
@@ -136,9 +153,9 @@ fn build_of<'p, V: MetaValidators>(
     sources: Sources<'p>,
     metas: &V,
     options: ValidationOptions,
-) -> Result<StandardValidator, EngineError>
-    ensures built { IfOk result (IsBuiltOf ⟦<DocumentResolver<'p> as Resolver>⟧ ⟦<StandardTable as KeywordTable<StandardKeyword>>⟧
-        ⟦<StandardKeyword as Validate>⟧ (V.checked metas.now) options sources.entry) }
+) -> Result<Built, EngineError>
+    ensures built { IfOk result (λ b. IsBuiltOf ⟦<DocumentResolver<'p> as Resolver>⟧ ⟦<StandardTable as KeywordTable<StandardKeyword>>⟧
+        ⟦<StandardKeyword as Validate>⟧ (V.checked metas.now) options sources.entry b.validator) }
     ensures refused { IfErr result (λ e. (e ≡ OutOfMemory) ⊎ IsRefusedOf ⟦<DocumentResolver<'p> as Resolver>⟧
         ⟦<StandardTable as KeywordTable<StandardKeyword>>⟧ ⟦<StandardKeyword as Validate>⟧ (V.checked metas.now)
         options sources.entry e) }
@@ -147,7 +164,10 @@ fn build_of<'p, V: MetaValidators>(
     let matcher = matcher_of(alloc, &sources)?;
     let options = options_for(alloc, options, &sources)?;
     let resolver = resolver_of(alloc, sources)?;
-    build_by(alloc, schema, &resolver, &matcher, metas, &options)
+    match build_by(alloc, schema, &resolver, &matcher, metas, &options) {
+        Ok(validator) => Ok(Built { validator, matcher }),
+        Err(refused) => Err(refused),
+    }
 }
 
 /// Returns the sources that options and a schema make.
@@ -166,12 +186,12 @@ fn sources_of<'a>(options: BuildOptions<'a>, schema: &'a Value) -> (Sources<'a>,
 }
 
 /// Returns the engine's refusal as an error of this library.
-fn told(built: Result<StandardValidator, EngineError>) -> Result<StandardValidator, BuildError>
-    ensures same { IfOk result (λ v. built ≡ Ok v) }
+fn told(built: Result<Built, EngineError>) -> Result<Built, BuildError>
+    ensures same { IfOk result (λ b. built ≡ Ok b) }
     ensures told { IfErr result (TellsOf built) }
 {
     match built {
-        Ok(validator) => Ok(validator),
+        Ok(built) => Ok(built),
         Err(refused) => Err(error_of(refused)),
     }
 }
@@ -280,9 +300,9 @@ impl<'a> BuildOptions<'a> {
         self,
         metas: &V,
         schema: &'a Value,
-    ) -> Result<StandardValidator, BuildError>
-        ensures built { IfOk result (IsBuiltFrom ⟦<DocumentResolver<'a> as Resolver>⟧ ⟦<StandardTable as KeywordTable<StandardKeyword>>⟧
-            ⟦<StandardKeyword as Validate>⟧ (V.checked metas.now) self.entry schema.now) }
+    ) -> Result<Built, BuildError>
+        ensures built { IfOk result (λ b. IsBuiltFrom ⟦<DocumentResolver<'a> as Resolver>⟧ ⟦<StandardTable as KeywordTable<StandardKeyword>>⟧
+            ⟦<StandardKeyword as Validate>⟧ (V.checked metas.now) self.entry schema.now b.validator) }
         ensures refused { IfErr result (RefusesFrom ⟦<DocumentResolver<'a> as Resolver>⟧ ⟦<StandardTable as KeywordTable<StandardKeyword>>⟧
             ⟦<StandardKeyword as Validate>⟧ (V.checked metas.now) self.entry schema.now) }
     {
@@ -297,9 +317,9 @@ impl<'a> BuildOptions<'a> {
         metas: &V,
         schema: &'a Value,
         documents: &'a MetaDocuments,
-    ) -> Result<StandardValidator, BuildError>
-        ensures built { IfOk result (λ p. AreStandard documents.now → IsBuiltFrom ⟦<DocumentResolver<'a> as Resolver>⟧ ⟦<StandardTable as KeywordTable<StandardKeyword>>⟧
-            ⟦<StandardKeyword as Validate>⟧ (V.checked metas.now) self.entry schema.now p) }
+    ) -> Result<Built, BuildError>
+        ensures built { IfOk result (λ b. AreStandard documents.now → IsBuiltFrom ⟦<DocumentResolver<'a> as Resolver>⟧ ⟦<StandardTable as KeywordTable<StandardKeyword>>⟧
+            ⟦<StandardKeyword as Validate>⟧ (V.checked metas.now) self.entry schema.now b.validator) }
         ensures refused { IfErr result (λ e. AreStandard documents.now → RefusesFrom ⟦<DocumentResolver<'a> as Resolver>⟧ ⟦<StandardTable as KeywordTable<StandardKeyword>>⟧
             ⟦<StandardKeyword as Validate>⟧ (V.checked metas.now) self.entry schema.now e) }
     {
@@ -316,9 +336,9 @@ impl<'a> BuildOptions<'a> {
         self,
         metas: &V,
         schema: &'a Value,
-    ) -> Result<StandardValidator, BuildError>
-        ensures built { IfOk result (IsBuiltFrom ⟦<DocumentResolver<'a> as Resolver>⟧ ⟦<StandardTable as KeywordTable<StandardKeyword>>⟧
-            ⟦<StandardKeyword as Validate>⟧ (V.checked metas.now) self.entry schema.now) }
+    ) -> Result<Built, BuildError>
+        ensures built { IfOk result (λ b. IsBuiltFrom ⟦<DocumentResolver<'a> as Resolver>⟧ ⟦<StandardTable as KeywordTable<StandardKeyword>>⟧
+            ⟦<StandardKeyword as Validate>⟧ (V.checked metas.now) self.entry schema.now b.validator) }
         ensures refused { IfErr result (RefusesFrom ⟦<DocumentResolver<'a> as Resolver>⟧ ⟦<StandardTable as KeywordTable<StandardKeyword>>⟧
             ⟦<StandardKeyword as Validate>⟧ (V.checked metas.now) self.entry schema.now) }
     {
@@ -329,6 +349,24 @@ impl<'a> BuildOptions<'a> {
                 built
             }
             Err(fault) => Err(unrefused(fault)),
+        }
+    }
+
+    /// Builds as `build_by` does.
+    pub(crate) fn build_any<V: MetaValidators>(
+        self,
+        metas: &V,
+        schema: &'a Value,
+    ) -> Result<Built, BuildError>
+        ensures built { IfOk result (λ b. IsBuiltFrom ⟦<DocumentResolver<'a> as Resolver>⟧ ⟦<StandardTable as KeywordTable<StandardKeyword>>⟧
+            ⟦<StandardKeyword as Validate>⟧ (V.checked metas.now) self.entry schema.now b.validator) }
+        ensures refused { IfErr result (RefusesFrom ⟦<DocumentResolver<'a> as Resolver>⟧ ⟦<StandardTable as KeywordTable<StandardKeyword>>⟧
+            ⟦<StandardKeyword as Validate>⟧ (V.checked metas.now) self.entry schema.now) }
+    {
+        if self.mentions_standard(schema) {
+            self.build_beside(metas, schema)
+        } else {
+            self.build_alone(metas, schema)
         }
     }
 
@@ -351,18 +389,20 @@ impl<'a> BuildOptions<'a> {
         ensures refused { IfErr result (RefusesFrom ⟦<DocumentResolver<'a> as Resolver>⟧ ⟦<StandardTable as KeywordTable<StandardKeyword>>⟧
             ⟦<StandardKeyword as Validate>⟧ (V.checked metas.now) self.entry schema.now) }
     {
-        if self.mentions_standard(schema) {
-            self.build_beside(metas, schema)
-        } else {
-            self.build_alone(metas, schema)
+        match self.build_any(metas, schema) {
+            Ok(built) => Ok(validator_in(built)),
+            Err(fault) => Err(fault),
         }
     }
 
-    /// Builds a validator of a schema, which the standard's meta-schemas check.
+    /// Builds a validator of a schema, which its meta-schemas check.
     ///
-    /// A meta-schema that is not compiled yet is compiled if the schema needs it, and is kept for
-    /// further builds. It is needed if the schema is of its draft. If a `$schema` stands inside the
-    /// schema, or its own is none of the standard's, then those of all drafts are needed.
+    /// These are the standard's, and the one that its `$schema` names among the documents. That one
+    /// checks the document that names it, and is itself checked by its own meta-schemas.
+    ///
+    /// A meta-schema of the standard that is not compiled yet is compiled if the schema needs it, and
+    /// is kept for further builds. It is needed if the schema is of its draft. If a `$schema` stands
+    /// inside the schema, or its own is none of the standard's, then those of all drafts are needed.
     ///
     /// # Errors
     ///
@@ -373,28 +413,29 @@ impl<'a> BuildOptions<'a> {
         schema: &'a Value,
     ) -> Result<StandardValidator, BuildError>
         ensures built { IfOk result (IsBuiltWith ⟦<DocumentResolver<'a> as Resolver>⟧ ⟦<StandardTable as KeywordTable<StandardKeyword>>⟧
-            ⟦<StandardKeyword as Validate>⟧ self.entry schema.now metas.new.checkers) }
-        ensures refused { IfErr result (RefusesFrom ⟦<DocumentResolver<'a> as Resolver>⟧ ⟦<StandardTable as KeywordTable<StandardKeyword>>⟧
-            ⟦<StandardKeyword as Validate>⟧ (checked_by ⟦<StandardKeyword as Validate>⟧ regexes metas.new.checkers) self.entry schema.now) }
+            ⟦<StandardKeyword as Validate>⟧ metas.new.checkers self.entry schema.now) }
+        ensures refused { IfErr result (RefusesChecked ⟦<DocumentResolver<'a> as Resolver>⟧ ⟦<StandardTable as KeywordTable<StandardKeyword>>⟧
+            ⟦<StandardKeyword as Validate>⟧ metas.new.checkers self.entry schema.now) }
         ensures each { EachMeans ⟦<DocumentResolver<'static> as Resolver>⟧ ⟦<StandardTable as KeywordTable<StandardKeyword>>⟧
             ⟦<StandardKeyword as Validate>⟧ metas.old.checkers
             → EachMeans ⟦<DocumentResolver<'static> as Resolver>⟧ ⟦<StandardTable as KeywordTable<StandardKeyword>>⟧
             ⟦<StandardKeyword as Validate>⟧ metas.new.checkers }
     {
         match self.prepare(metas, schema) {
-            Ok(()) => self.build_by(&*metas, schema),
+            Ok(()) => self.build_checked(&*metas, schema),
             Err(fault) => Err(fault),
         }
     }
 
     /// Builds a validator of a schema. The validator borrows nothing.
     ///
-    /// The meta-schema of its draft checks the schema first, unless the options turn that off.
+    /// Its meta-schemas check the schema first, unless the options turn that off (`build_with`).
     ///
     /// # Errors
     ///
-    /// The schema, or one that it reaches, is refused; its meta-schema refuses it; more distinct
-    /// schemas are reached than the limit allows; or out of memory.
+    /// The schema, or one that it reaches, is refused; a meta-schema refuses it; a meta-schema among
+    /// the documents is refused, or cannot check schemas; more distinct schemas are reached than the
+    /// limit allows; or out of memory.
     pub fn build(self, schema: &'a Value) -> Result<StandardValidator, BuildError>
         ensures built { IfOk result (IsValidatorOf ⟦<DocumentResolver<'a> as Resolver>⟧ ⟦<StandardTable as KeywordTable<StandardKeyword>>⟧
             ⟦<StandardKeyword as Validate>⟧ self.entry schema.now) }

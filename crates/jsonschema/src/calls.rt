@@ -1,8 +1,8 @@
 //! Building and asking in one call, by the standard's parts and the default options.
 ghost use Rattle.std.specs.Prelude.{◌≡◌, IfErr, IfOk};
 ghost use Rattle.jsonschema.specs.BuildOptions.{no_options};
-ghost use Rattle.jsonschema.specs.Built.{IsNoValidatorOf, IsValidatorOf};
 ghost use Rattle.jsonschema.specs.Calls.{AreErrorsOf, IsEvaluationOf, IsFirstErrorOf, IsVerdictOf};
+ghost use Rattle.jsonschema.specs.Checked.{IsNoValidatorOf, IsValidatorOf};
 ghost use Rattle.jsonschema.specs.Refusing.{IsUnrefused};
 
 use crate::build_options::options;

@@ -1,6 +1,6 @@
 //! Why no validator is built, for the users of this library.
 ghost use Rattle.std.specs.Prelude.{◌≡◌};
-ghost use Rattle.jsonschema.specs.Refusing.{IsUnrefused, Tells};
+ghost use Rattle.jsonschema.specs.Refusing.{IsUnrefused, Tells, blamed};
 
 use schema_engine::{BuildError as EngineError, Location};
 use standard_meta::MetaError;
@@ -13,7 +13,13 @@ use std::fmt;
 pub enum BuildError {
     /// The schema is refused.
     Refused(EngineError),
-    /// A meta-schema cannot check schemas.
+    /// A supplied meta-schema that the schema leads to is refused.
+    MetaSchemaRefused { uri: String, refused: EngineError },
+    /// A supplied meta-schema that the schema leads to cannot check schemas.
+    ///
+    /// A keyword of it shows a fraction, a pattern has a back reference, or it leads back to itself.
+    MetaSchemaUnfit { uri: String },
+    /// A meta-schema of the standard cannot check schemas.
     MetaSchemas(MetaError),
     /// Out of memory.
     OutOfMemory,
@@ -26,6 +32,8 @@ impl BuildError {
     pub fn location(&self) -> Option<&Location> {
         match self {
             BuildError::Refused(refused) => location_of(refused),
+            BuildError::MetaSchemaRefused { uri: _, refused } => location_of(refused),
+            BuildError::MetaSchemaUnfit { uri: _ } => None,
             BuildError::MetaSchemas(_) => None,
             BuildError::OutOfMemory => None,
         }
@@ -57,6 +65,18 @@ pub(crate) fn error_of(refused: EngineError) -> BuildError
     }
 }
 
+/// Returns the error of the build of a supplied meta-schema, as one of the schema that names it.
+///
+/// The meta-schema is supplied under this URI.
+pub(crate) fn error_of_meta(uri: String, fault: BuildError) -> BuildError
+    ensures blamed { result ≡ blamed uri fault }
+{
+    match fault {
+        BuildError::Refused(refused) => BuildError::MetaSchemaRefused { uri, refused },
+        other => other,
+    }
+}
+
 /// Returns the fault of the meta-schemas as an error of this library.
 pub(crate) fn unrefused(fault: MetaError) -> BuildError
     ensures unrefused { IsUnrefused result }
@@ -71,6 +91,14 @@ impl fmt::Display for BuildError {
     fn fmt<W: fmt::Write>(&self, f: &mut fmt::Formatter<W>) -> fmt::Result {
         match self {
             BuildError::Refused(refused) => write!(f, "{refused}"),
+            BuildError::MetaSchemaRefused { uri, refused } => write!(
+                f,
+                "the meta-schema '{uri}': {refused}"
+            ),
+            BuildError::MetaSchemaUnfit { uri } => write!(
+                f,
+                "the meta-schema '{uri}' cannot check schemas"
+            ),
             BuildError::MetaSchemas(fault) => write!(f, "{fault}"),
             BuildError::OutOfMemory => write!(f, "out of memory"),
         }

@@ -12,6 +12,7 @@ mod calls;
 mod error;
 mod mentions;
 mod sources;
+mod supplied;
 
 pub use build_options::{BuildOptions, options};
 pub use building::StandardValidator;

@@ -141,6 +141,16 @@ fn refuse(
 ) -> Stop {
     match refused {
         BuildError::Refused(refused) => refuse_schema(rt, options, supply, refused),
+        BuildError::MetaSchemaRefused { uri, refused } => {
+            tell(rt, uri.as_str(), "is refused", refused, hint_of(refused))
+        }
+        BuildError::MetaSchemaUnfit { uri: _ } => tell(
+            rt,
+            options.schema,
+            "cannot be checked",
+            refused,
+            "--no-check builds the schema unchecked",
+        ),
         BuildError::MetaSchemas(fault) => refuse_metas(rt, fault),
         BuildError::OutOfMemory => Stop::OutOfMemory,
     }

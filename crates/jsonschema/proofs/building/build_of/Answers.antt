@@ -1,12 +1,11 @@
 use Rattle.std.proofs.Common.{ap}
-use Rattle.std.proofs.lemmas.Result.{IfErr-weaker, IfOk-weaker}
 use Rattle.serde_json.specs.View.{view}
 use Rattle.jsonschema.proofs.Builds.{built_of, refused_of}
 use Rattle.jsonschema.specs.Sources.{IsResolverOf, SchemaSources}
 use Rattle.jsonschema.proofs.building.build_of.Goals as goal
 
-pub returns-clause-built : goal.returns-clause-built
-returns-clause-built g c =
+pub returns-in-Ok-clause-built : goal.returns-in-Ok-clause-built
+returns-in-Ok-clause-built g c =
     let e = c.in_ok-resolver.ensures in
     let is : IsResolverOf c.args.sources c.in_ok-resolver.resolver = record {
       rule = e.rule;
@@ -20,11 +19,11 @@ returns-clause-built g c =
       custom = e.custom;
     } in
     let same = ap (λ (s : SchemaSources). view s.schema) c.sources.view_is in
-    IfOk-weaker c.build_by.result _ _ (built_of _ _ _ (g.V.MetaValidators.checked c.args.metas.now) c.args.options c.args.sources
-    _ _ _ _ is c.in_ok-matcher.ensures.matcher c.in_ok-options.ensures.options same) c.build_by.ensures.built
+    built_of _ _ _ (g.V.MetaValidators.checked c.args.metas.now) c.args.options c.args.sources
+    _ _ _ _ is c.in_ok-matcher.ensures.matcher c.in_ok-options.ensures.options same c.in-Ok.validator c.in-Ok.ensures.built
 
-pub returns-clause-refused : goal.returns-clause-refused
-returns-clause-refused g c =
+pub returns-in-Err-clause-refused : goal.returns-in-Err-clause-refused
+returns-in-Err-clause-refused g c =
     let e = c.in_ok-resolver.ensures in
     let is : IsResolverOf c.args.sources c.in_ok-resolver.resolver = record {
       rule = e.rule;
@@ -38,5 +37,5 @@ returns-clause-refused g c =
       custom = e.custom;
     } in
     let same = ap (λ (s : SchemaSources). view s.schema) c.sources.view_is in
-    IfErr-weaker c.build_by.result _ _ (refused_of _ _ _ (g.V.MetaValidators.checked c.args.metas.now) c.args.options c.args.sources
-    _ _ _ _ is c.in_ok-matcher.ensures.matcher c.in_ok-options.ensures.options same) c.build_by.ensures.refused
+    refused_of _ _ _ (g.V.MetaValidators.checked c.args.metas.now) c.args.options c.args.sources
+    _ _ _ _ is c.in_ok-matcher.ensures.matcher c.in_ok-options.ensures.options same c.in-Err.refused c.in-Err.ensures.refused
