@@ -162,13 +162,15 @@ impl Answerer for Validating<'_> {
         subject: Subject<'_>,
         instance: &Value,
     ) -> Answer {
-        match (style.output, subject.line) {
-            (Output::Text, None) => self.errors(alloc, style, subject, instance),
-            (Output::Text, Some(_line)) => self.first_error(alloc, style, subject, instance),
-            (Output::Flag, _) => self.verdict(alloc, style, subject, instance),
-            (Output::List | Output::Basic | Output::Hierarchical, _) => {
-                self.units(alloc, style, subject, instance)
-            }
+        match style.output {
+            Output::Text => match subject.line {
+                None => self.errors(alloc, style, subject, instance),
+                Some(_line) => self.first_error(alloc, style, subject, instance),
+            },
+            Output::Flag => self.verdict(alloc, style, subject, instance),
+            Output::List => self.units(alloc, style, subject, instance),
+            Output::Basic => self.units(alloc, style, subject, instance),
+            Output::Hierarchical => self.units(alloc, style, subject, instance),
         }
     }
 }
