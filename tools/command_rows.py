@@ -92,6 +92,7 @@ FILES = {
     "linked/bytes.json": '{"$ref": "../bytes.lines"}',
     "linked/folder.json": '{"$ref": "defs"}',
     "linked/unasked.json": '{"enum": [1, {"$ref": "gone.json"}], "$defs": {"a": {"$ref": "gone.json"}}}',
+    "named.json": '{"$id": "https://example.com/n", "type": "number"}',
     "linked/own.json": '{"$schema": "file:///nowhere/meta.json", "type": "string"}',
     "home.json": '{"name": "Ann", "home": {"town": "Bonn", "owner": {"home": {"town": 3}}}}',
 }
@@ -242,15 +243,16 @@ ROWS = [
      '{"output":"flag","schema":"number.json","instance":"1.json","payload":{"valid":true}}\n', []),
     ("list", ["number.json", "--output", "list", "-i", "text.json"], "", 1,
      {"output": "list", "schema": "number.json", "instance": "text.json", "valid": False}, []),
-    ("basic", ["number.json", "--output", "basic", "-i", "text.json"], "", 1,
-     '{"output":"basic","schema":"number.json","instance":"text.json","payload":{"errors":['
-     '{"error":"A subschema had errors.","instanceLocation":"","keywordLocation":"","valid":false},'
-     '{"error":"\\"text\\" is not of type \\"number\\"","instanceLocation":"","keywordLocation":"/type","valid":false}'
+    ("basic", ["named.json", "--output", "basic", "-i", "text.json"], "", 1,
+     '{"output":"basic","schema":"named.json","instance":"text.json","payload":{"absoluteKeywordLocation":"https://example.com/n#","errors":['
+     '{"absoluteKeywordLocation":"https://example.com/n#","error":"A subschema had errors.","instanceLocation":"","keywordLocation":"","valid":false},'
+     '{"absoluteKeywordLocation":"https://example.com/n#/type","error":"\\"text\\" is not of type \\"number\\"",'
+     '"instanceLocation":"","keywordLocation":"/type","valid":false}'
      '],"instanceLocation":"","keywordLocation":"","valid":false}}\n', []),
-    ("hierarchical", ["number.json", "--output", "hierarchical", "-i", "text.json"], "", 1,
-     '{"output":"hierarchical","schema":"number.json","instance":"text.json","payload":{"errors":{'
+    ("hierarchical", ["named.json", "--output", "hierarchical", "-i", "text.json"], "", 1,
+     '{"output":"hierarchical","schema":"named.json","instance":"text.json","payload":{"errors":{'
      '"type":"\\"text\\" is not of type \\"number\\""},'
-     '"evaluationPath":"","instanceLocation":"","schemaLocation":"","valid":false}}\n', []),
+     '"evaluationPath":"","instanceLocation":"","schemaLocation":"https://example.com/n","valid":false}}\n', []),
     ("text that rules a terminal", ["person.json", "-i", "bell.json"], "", 1,
      'bell.json - INVALID. Errors:\n1. "\\u001b[31m" is not of type "integer"\n   instance: /age; schema: /properties/age/type\n', []),
     ("a line feed in a name", ["key.json", "-i", "fed.json"], "", 1,

@@ -18,7 +18,7 @@ import tempfile
 
 OUTPUTS = ("text", "flag", "list")
 LENGTHS = (3000, 25000)
-LIMITS = ("nested evaluations was reached", "steps was reached")
+LIMITS = ("nested evaluations was reached", "steps was reached", "keys are reached")
 # a schema around another one, at the same place
 AROUND = {
     "$ref": lambda inner: inner,
@@ -92,7 +92,7 @@ def fault_of_command(command, output, schema, document, words, mebibytes):
     status, out, err = asked([command, schema, document, "--output", output, *words], "", mebibytes)
     if status in (0, 1):
         return ""
-    if status == 2 and any(limit in out for limit in LIMITS):
+    if status == 2 and any(limit in out + err for limit in LIMITS):
         return ""
     return f"status {status}: {(err or out)[:120]!r}"
 
