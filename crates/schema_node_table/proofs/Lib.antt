@@ -11,3 +11,4 @@ pub mod FilledNumbers
 pub mod Escaping
 pub mod Cloned
 pub mod ClosedNumbers
+pub mod ToldTable

@@ -11,3 +11,4 @@ pub mod NodeViews
 pub mod Cloned
 pub mod ValidatorViews
 pub mod ClosedNumbers
+pub mod ToldNodes

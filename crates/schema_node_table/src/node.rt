@@ -14,6 +14,7 @@ pub mod absolute;
 mod cloning;
 pub mod name;
 mod sharing;
+pub mod told;
 pub mod validators;
 
 use crate::node::name::KeywordName;

@@ -8,3 +8,4 @@ pub mod Entering
 pub mod VerdictRows
 pub mod Few
 pub mod Widths
+pub mod SpannedLists

@@ -18,3 +18,5 @@ pub mod Lending
 pub mod Works
 pub mod UnitPaths
 pub mod RunMatches
+pub mod SpannedSteps
+pub mod SpannedViews

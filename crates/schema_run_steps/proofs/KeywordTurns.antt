@@ -4,14 +4,14 @@ use Rattle.std.specs.List.{list_any}
 use Rattle.std.specs.Prelude.{All, Some, ◌⊎◌, slice_get}
 use Rattle.std.proofs.lemmas.List.Elements.{All-contains}
 use Rattle.serde_json.specs.Data.{Data}
-use Rattle.theory_definitions.specs.Instance.{Place, Subject, Text, subject_at}
+use Rattle.theory_definitions.specs.Instance.{Place, Step, Subject, Text, subject_at}
 use Rattle.theory_definitions.specs.Guarded.{Nodes, node_at}
 use Rattle.theory_meaning.specs.Numbered.{subject_in}
 use Rattle.schema_node_table.specs.NodeTable.{NodeEntry, numbered}
 use Rattle.schema_run_steps.proofs.NodeRuns.{stands_in, where_is}
 use Rattle.theory_definitions.specs.Reports.{Error, Unit_, report_of}
-use Rattle.theory_definitions.specs.Matching.{Pair, completed, matching, settled}
-use Rattle.theory_definitions.specs.Keywords.{Answer, Answers, Fault, Keywords, Marked, MatchPoint, Mode, Question, Reply, Turn, all_of_it, ask, done, ecma, first_of_it, for_all, for_first, for_units, for_verdict, mark, match_text, no_reply, truth, unmark}
+use Rattle.theory_definitions.specs.Matching.{Matching, Pair, completed, matching, settled}
+use Rattle.theory_definitions.specs.Keywords.{Answer, Answers, Fault, Keywords, Marked, MatchPoint, Mode, Question, Reply, Turn, all_of_it, ask, done, ecma, first_of_it, for_all, for_first, for_units, for_verdict, is_spanned, mark, match_text, no_reply, truth, unmark}
 use Rattle.theory_definitions.specs.Meaning.{Where, fault_error, keyword_outcome}
 use Rattle.theory_definitions.specs.Runs.{first_error, with_mark, without_last}
 use Rattle.theory_definitions.specs.Laws.{Agrees, AnsweredAlike, AsksRightly, IsPresent, IsRight, SpotInside, StandsInside, answer_in, first_fault, steps_below}
@@ -24,7 +24,7 @@ use Rattle.schema_run_context.proofs.Matches.{decides, deciding}
 use Rattle.schema_run_steps.specs.Askings.{entry_where}
 use Rattle.schema_run_steps.specs.ReplyModes.{reply_by}
 use Rattle.schema_run_steps.specs.NodeRuns.{Reading, Reads}
-use Rattle.schema_run_steps.specs.Turning.{EvaluatesOn, stands_at, unit_with}
+use Rattle.schema_run_steps.specs.Turning.{EvaluatesBy, EvaluatesOn, stands_by, unit_with}
 use Rattle.schema_traits.specs.declared.keyword.Fault as code
 use Rattle.schema_traits.specs.declared.keyword.Fault.TheVariants as fault
 use Rattle.schema_traits.specs.declared.keyword.Answer as code_answer
@@ -32,55 +32,92 @@ use Rattle.schema_run_steps.proofs.FaultsFound.{errors_of_faults}
 
 module _ {K R : Type 0} (keywords : Keywords K R) (m : K) (absorbed : List Text) (remaining : Subject → R → ℕ) (can_be : Subject → R → Type 0) (end_of : Standing R → Answer) (Fits : Standing R → Type 0)
     (laws : TurnLaws keywords m absorbed remaining can_be end_of Fits) where
-  -- ---- in a reading
+  -- ---- with these matches
+
+  module _ (s : Subject) (matches : Matching) (mode : Mode) (answers : Answers) (units : Question → Unit_) (same : Marked → Marked → Bool) where
+    abbrev OnWayBy : List Marked → R → Reply → Type 0
+    OnWayBy = EvaluatesBy keywords m can_be end_of Fits s matches mode answers units same
+
+    pub begins_by : (marks : List Marked) (r : R) → marks ≡ [] → ((q : Question) → Agrees (answers q)) → ((q : Question) → (report_of (units q)).valid ≡ (answers q).verdict) → AnsweredAlike same answers → keywords.begin m s mode ≡ r → OnWayBy marks r no_reply
+    begins_by marks r none agree valid alike e =
+        let h = laws.begins s mode matches answers units same agree valid alike in
+        subst (λ l. OnWayBy l r no_reply) (sym none) (subst (λ u. OnWayBy [] u no_reply) e (record { can = laws.starts s mode; fits = h.0; right = h.1 }))
+
+    abbrev To : List Marked → Turn → Reply
+    To = reply_to keywords m s matches answers units same
+
+    abbrev Marks : List Marked → Turn → List Marked
+    Marks = marks_after keywords m s matches answers units same
+
+    -- a turn that gets the true reply, and the marks after it
+    pub went_by : (marks marks' : List Marked) (r r' : R) (reply reply' : Reply) (t : Turn) → OnWayBy marks r reply → keywords.turn m s r reply ≡ r' → keywords.step m s r reply ≡ t → ¬ (t ≡ done) → Marks marks t ≡ marks' → To marks t ≡ reply' → OnWayBy marks' r' reply'
+    went_by marks marks' r r' reply reply' t way is e more held told =
+        let st : Standing R = stands_by s matches answers units same marks r reply in
+        let k = laws.keeps st way.fits (λ d. more (sym e ∙ d)) in
+        let holds : Marks marks (keywords.step m s r reply) ≡ marks' = ap (Marks marks) e ∙ held in
+        let replied : To marks (keywords.step m s r reply) ≡ reply' = ap (To marks) e ∙ told in
+        let there : next keywords m st ≡ stands_by s matches answers units same marks' r' reply'
+        = λ i. record { subject = s; matches = matches; answers = answers; unit_at = units; same = same; marks = holds i; state = is i; reply = replied i } in
+        record { can = subst (can_be s) is (laws.goes_on s r reply way.can); fits = subst Fits there k.0; right = subst (IsRight keywords m s matches answers units same mode) (sym k.1 ∙ ap end_of there) way.right }
+
+    pub asked_by : (marks marks' : List Marked) (r r' : R) (reply reply' : Reply) (q : Question) (w : Mode) → marks' ≡ marks → OnWayBy marks r reply → keywords.turn m s r reply ≡ r' → keywords.step m s r reply ≡ ask q w → reply' ≡ answer_in keywords m s matches answers units same w q → OnWayBy marks' r' reply'
+    asked_by marks marks' r r' reply reply' q w kept way t e a = went_by marks marks' r r' reply reply' (ask q w) way t e (λ f. cc f) (sym kept) (sym a)
+
+    pub matched_by : (marks marks' : List Marked) (r r' : R) (reply reply' : Reply) (a : Pair) (point : MatchPoint) → marks' ≡ marks → OnWayBy marks r reply → keywords.turn m s r reply ≡ r' → keywords.step m s r reply ≡ match_text a point
+        → reply' ≡ truth (matches.matches a.pattern a.subject) → OnWayBy marks' r' reply'
+    matched_by marks marks' r r' reply reply' a point kept way t e is = went_by marks marks' r r' reply reply' (match_text a point) way t e (λ f. cc f) (sym kept) (sym is)
+
+    pub told_pattern_by : (marks marks' : List Marked) (r r' : R) (reply reply' : Reply) (text : Text) → marks' ≡ marks → OnWayBy marks r reply → keywords.turn m s r reply ≡ r' → keywords.step m s r reply ≡ ecma text → reply' ≡ truth (matches.is_ecma text) → OnWayBy marks' r' reply'
+    told_pattern_by marks marks' r r' reply reply' text kept way t e is = went_by marks marks' r r' reply reply' (ecma text) way t e (λ f. cc f) (sym kept) (sym is)
+
+    -- a turn that is told whether the others span a step
+    pub told_span_by : (marks marks' : List Marked) (r r' : R) (reply reply' : Reply) (step : Step) → marks' ≡ marks → OnWayBy marks r reply → keywords.turn m s r reply ≡ r' → keywords.step m s r reply ≡ is_spanned step → reply' ≡ truth (matches.spanned step) → OnWayBy marks' r' reply'
+    told_span_by marks marks' r r' reply reply' step kept way t e is = went_by marks marks' r r' reply reply' (is_spanned step) way t e (λ f. cc f) (sym kept) (sym is)
+
+    pub marked_by : (marks marks' : List Marked) (r r' : R) (reply reply' : Reply) (i : Marked) → marks' ≡ with_mark same i marks → OnWayBy marks r reply → keywords.turn m s r reply ≡ r' → keywords.step m s r reply ≡ mark i → reply' ≡ truth (list_any (same i) marks) → OnWayBy marks' r' reply'
+    marked_by marks marks' r r' reply reply' i held way t e is = went_by marks marks' r r' reply reply' (mark i) way t e (λ f. cc f) (sym held) (sym is)
+
+    pub mark_taken_by : (marks marks' : List Marked) (r r' : R) (reply reply' : Reply) → marks' ≡ without_last marks → OnWayBy marks r reply → keywords.turn m s r reply ≡ r' → keywords.step m s r reply ≡ unmark → reply' ≡ no_reply → OnWayBy marks' r' reply'
+    mark_taken_by marks marks' r r' reply reply' left way t e is = went_by marks marks' r r' reply reply' unmark way t e (λ f. cc f) (sym left) (sym is)
+
+    pub ended_by : (marks : List Marked) (r r' : R) (reply : Reply) (a : Answer) → OnWayBy marks r reply → keywords.turn m s r reply ≡ r' → keywords.answer r' ≡ a → keywords.step m s r reply ≡ done
+        → IsRight keywords m s matches answers units same mode a
+    ended_by marks r r' reply a way t is e =
+        let k = laws.stands (stands_by s matches answers units same marks r reply) way.fits e in
+        subst (IsRight keywords m s matches answers units same mode) (sym k ∙ ap keywords.answer t ∙ is) way.right
+
+  -- ---- in a reading, for a keyword that is not told what the others span
 
   module _ (s : Subject) (x : Reading) (mode : Mode) (answers : Answers) (units : Question → Unit_) (same : Marked → Marked → Bool) where
     abbrev OnWay : List Marked → R → Reply → Type 0
     OnWay = EvaluatesOn keywords m can_be end_of Fits s x mode answers units same
 
     pub begins_on : (marks : List Marked) (r : R) → marks ≡ [] → ((q : Question) → Agrees (answers q)) → ((q : Question) → (report_of (units q)).valid ≡ (answers q).verdict) → AnsweredAlike same answers → keywords.begin m s mode ≡ r → OnWay marks r no_reply
-    begins_on marks r none agree valid alike e =
-        let h = laws.begins s mode (matching x.matcher x.completion) answers units same agree valid alike in
-        subst (λ l. OnWay l r no_reply) (sym none) (subst (λ u. OnWay [] u no_reply) e (record { can = laws.starts s mode; fits = h.0; right = h.1 }))
-
-    abbrev To : List Marked → Turn → Reply
-    To = reply_to keywords m s (matching x.matcher x.completion) answers units same
-
-    abbrev Marks : List Marked → Turn → List Marked
-    Marks = marks_after keywords m s (matching x.matcher x.completion) answers units same
-
-    -- a turn that gets the true reply, and the marks after it
-    pub went : (marks marks' : List Marked) (r r' : R) (reply reply' : Reply) (t : Turn) → OnWay marks r reply → keywords.turn m s r reply ≡ r' → keywords.step m s r reply ≡ t → ¬ (t ≡ done) → Marks marks t ≡ marks' → To marks t ≡ reply' → OnWay marks' r' reply'
-    went marks marks' r r' reply reply' t way is e more held told =
-        let st : Standing R = stands_at s x answers units same marks r reply in
-        let k = laws.keeps st way.fits (λ d. more (sym e ∙ d)) in
-        let holds : Marks marks (keywords.step m s r reply) ≡ marks' = ap (Marks marks) e ∙ held in
-        let replied : To marks (keywords.step m s r reply) ≡ reply' = ap (To marks) e ∙ told in
-        let there : next keywords m st ≡ stands_at s x answers units same marks' r' reply'
-        = λ i. record { subject = s; matches = matching x.matcher x.completion; answers = answers; unit_at = units; same = same; marks = holds i; state = is i; reply = replied i } in
-        record { can = subst (can_be s) is (laws.goes_on s r reply way.can); fits = subst Fits there k.0; right = subst (IsRight keywords m s (matching x.matcher x.completion) answers units same mode) (sym k.1 ∙ ap end_of there) way.right }
+    begins_on = begins_by s (matching x.matcher x.completion) mode answers units same
 
     pub asked_on : (marks marks' : List Marked) (r r' : R) (reply reply' : Reply) (q : Question) (w : Mode) → marks' ≡ marks → OnWay marks r reply → keywords.turn m s r reply ≡ r' → keywords.step m s r reply ≡ ask q w → reply' ≡ answer_in keywords m s (matching x.matcher x.completion) answers units same w q → OnWay marks' r' reply'
-    asked_on marks marks' r r' reply reply' q w kept way t e a = went marks marks' r r' reply reply' (ask q w) way t e (λ f. cc f) (sym kept) (sym a)
+    asked_on = asked_by s (matching x.matcher x.completion) mode answers units same
 
     pub matched_on : (marks marks' : List Marked) (r r' : R) (reply reply' : Reply) (a : Pair) (point : MatchPoint) → marks' ≡ marks → OnWay marks r reply → keywords.turn m s r reply ≡ r' → keywords.step m s r reply ≡ match_text a point
         → reply' ≡ truth (settled (completed x.completion a) (x.matcher.is_match a.pattern a.subject)) → OnWay marks' r' reply'
-    matched_on marks marks' r r' reply reply' a point kept way t e is = went marks marks' r r' reply reply' (match_text a point) way t e (λ f. cc f) (sym kept) (sym is)
+    matched_on = matched_by s (matching x.matcher x.completion) mode answers units same
 
     pub told_pattern_on : (marks marks' : List Marked) (r r' : R) (reply reply' : Reply) (text : Text) → marks' ≡ marks → OnWay marks r reply → keywords.turn m s r reply ≡ r' → keywords.step m s r reply ≡ ecma text → reply' ≡ truth (x.matcher.is_ecma text) → OnWay marks' r' reply'
-    told_pattern_on marks marks' r r' reply reply' text kept way t e is = went marks marks' r r' reply reply' (ecma text) way t e (λ f. cc f) (sym kept) (sym is)
+    told_pattern_on = told_pattern_by s (matching x.matcher x.completion) mode answers units same
+
+    -- nothing is spanned
+    pub told_span_on : (marks marks' : List Marked) (r r' : R) (reply reply' : Reply) (step : Step) → marks' ≡ marks → OnWay marks r reply → keywords.turn m s r reply ≡ r' → keywords.step m s r reply ≡ is_spanned step → reply' ≡ truth false → OnWay marks' r' reply'
+    told_span_on = told_span_by s (matching x.matcher x.completion) mode answers units same
 
     pub marked_on : (marks marks' : List Marked) (r r' : R) (reply reply' : Reply) (i : Marked) → marks' ≡ with_mark same i marks → OnWay marks r reply → keywords.turn m s r reply ≡ r' → keywords.step m s r reply ≡ mark i → reply' ≡ truth (list_any (same i) marks) → OnWay marks' r' reply'
-    marked_on marks marks' r r' reply reply' i held way t e is = went marks marks' r r' reply reply' (mark i) way t e (λ f. cc f) (sym held) (sym is)
+    marked_on = marked_by s (matching x.matcher x.completion) mode answers units same
 
     pub mark_taken_on : (marks marks' : List Marked) (r r' : R) (reply reply' : Reply) → marks' ≡ without_last marks → OnWay marks r reply → keywords.turn m s r reply ≡ r' → keywords.step m s r reply ≡ unmark → reply' ≡ no_reply → OnWay marks' r' reply'
-    mark_taken_on marks marks' r r' reply reply' left way t e is = went marks marks' r r' reply reply' unmark way t e (λ f. cc f) (sym left) (sym is)
+    mark_taken_on = mark_taken_by s (matching x.matcher x.completion) mode answers units same
 
     pub ended_on : (marks : List Marked) (r r' : R) (reply : Reply) (a : Answer) → OnWay marks r reply → keywords.turn m s r reply ≡ r' → keywords.answer r' ≡ a → keywords.step m s r reply ≡ done
         → IsRight keywords m s (matching x.matcher x.completion) answers units same mode a
-    ended_on marks r r' reply a way t is e =
-        let k = laws.stands (stands_at s x answers units same marks r reply) way.fits e in
-        subst (IsRight keywords m s (matching x.matcher x.completion) answers units same mode) (sym k ∙ ap keywords.answer t ∙ is) way.right
+    ended_on = ended_by s (matching x.matcher x.completion) mode answers units same
 
   -- ---- a run that is done at its first turn says what is right
 
@@ -122,6 +159,9 @@ match_goes_on a point e = cc
 
 pub ecma_goes_on : (text : Text) → ¬ (ecma text ≡ done)
 ecma_goes_on text e = cc
+
+pub span_goes_on : (step : Step) → ¬ (is_spanned step ≡ done)
+span_goes_on step e = cc
 
 pub mark_goes_on : (i : Marked) → ¬ (mark i ≡ done)
 mark_goes_on i e = cc

@@ -6,3 +6,4 @@ pub mod Stamped
 pub mod NodeRuns
 pub mod NodeParts
 pub mod KeywordTurns
+pub mod KeptChildren

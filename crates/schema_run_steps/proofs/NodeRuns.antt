@@ -20,6 +20,7 @@ use Rattle.theory_meaning.proofs.Falls.{from_below, left_below, left_entered, le
 use Rattle.schema_traits.specs.FaultViews.{errors_in}
 use Rattle.schema_traits.specs.KeywordViews.{reply_of}
 use Rattle.schema_run_context.specs.Matches.{Settling}
+use Rattle.schema_node_table.specs.ToldNodes.{plan_told}
 use Rattle.schema_node_table.specs.NodeTable.{NodeEntry, absolute_in, numbered}
 use Rattle.schema_run_steps.specs.Askings.{entry_where}
 use Rattle.schema_run_steps.specs.ReplyModes.{Joins, Stamps, accepts, refuses, reply_by}
@@ -86,17 +87,23 @@ reply_seen for_all o p v e = ap all_of_it e
 reply_seen for_units o p v e = refl
 
 -- nor what a plan spans
-plan_seen : {K : Type 0} (mode : Mode) (plan : NodePlan K) (a b : Outcome) (f g : List (NodePart K) → Outcome) → ((xs : List (NodePart K)) → f xs ≡ g xs)
+plan_seen : {K : Type 0} (mode : Mode) (plan : NodePlan K) (a b : Outcome) (f g : List (NodePart K) → Outcome) → ((xs : List (NodePart K)) → plan ≡ node_these xs → f xs ≡ g xs)
     → reply_by mode (elim plan [ node_always ↦ a | node_never ↦ b | node_these xs ↦ f xs ]) ≡ reply_by mode (elim plan [ node_always ↦ a | node_never ↦ b | node_these xs ↦ kept (g xs) ])
 plan_seen mode node_always a b f g same = refl
 plan_seen mode node_never a b f g same = refl
-plan_seen mode (node_these xs) a b f g same = ap (reply_by mode) (same xs) ∙ reply_seen mode (g xs) (kept (g xs)) refl refl
+plan_seen mode (node_these xs) a b f g same = ap (reply_by mode) (same xs refl) ∙ reply_seen mode (g xs) (kept (g xs)) refl refl
 
 pub replies_accepted : (x : Reading) (mode : Mode) (r : code.Reply) (o : Outcome) → ((texts : Bool) → reply_of texts r ≡ reply_by mode accepted) → errors_in r ≡ [] → o.verdict ≡ true → o.errors ≡ [] → Replies x mode r o
 replies_accepted x mode r o a n v e = record { same = a x.texts ∙ sym (reply_seen mode o accepted v e); borrows = no_error x.root r n }
 
 pub replies_same : (x : Reading) (mode : Mode) (r : code.Reply) (o o' : Outcome) → o ≡ o' → Replies x mode r o → Replies x mode r o'
 replies_same x mode r o o' e h = subst (Replies x mode r) e h
+
+-- a plan without a told entry, if no keyword is ever told
+pub never_plan : {K R : Type 0} (keywords : Keywords K R) → NeverTold keywords → (plan : NodePlan K) → plan_told keywords plan ≡ false
+never_plan keywords never node_always = refl
+never_plan keywords never node_never = refl
+never_plan keywords never (node_these xs) = never_none keywords never xs
 
 -- ---- edges
 
@@ -199,8 +206,9 @@ module _ {K R : Type 0} (words : Bool → Keywords K R) (is_whole : K → Bool) 
     PlanReplies plan = (x : Reading) → Reads is_whole nodes count w p s x → left nodes count i s busy ≤ x.depth
         → Replies x mode r (elim plan [ node_always ↦ accepted | node_never ↦ false_outcome (words x.texts).texts (node_at (words x.texts) x.matcher nodes (subject_in x.root) i path p) (subject_in x.root p) | node_these xs ↦ parts_say words nodes x i path p busy xs ])
 
-    pub node_by_plan : ((texts : Bool) → NeverTold (words texts)) → (plan : NodePlan K) → nodes.entries i ≡ plan → PlanReplies plan → NodeReplies words is_whole nodes count w mode path p busy s i r
-    node_by_plan never plan e h x reads l = go x.depth l reads
+    -- a node of which no entry is told says what its plan does one less deep
+    pub node_untold : ((texts : Bool) → plan_told (words texts) (nodes.entries i) ≡ false) → (plan : NodePlan K) → nodes.entries i ≡ plan → PlanReplies plan → NodeReplies words is_whole nodes count w mode path p busy s i r
+    node_untold untold plan e h x reads l = go x.depth l reads
       where
         go : (d : ℕ) → left nodes count i s busy < d → Reads is_whole nodes count w p s (record x { depth = d }) → Replies (record x { depth = d }) mode r (deep words nodes (record x { depth = d }) i path p busy)
         go zero l reads = absurd (omega arith)
@@ -211,9 +219,13 @@ module _ {K R : Type 0} (words : Bool → Keywords K R) (is_whole : K → Bool) 
             record {
               same = answer.same ∙ plan_seen mode (nodes.entries i) accepted _ (parts_say words nodes (record x { depth = d }) i path p busy)
                   (λ xs. node_parts (words x.texts) x.matcher nodes (subject_in x.root) x.completion i path p edges (others xs) xs)
-                  (λ xs. sym (parts_alone_are (words x.texts) x.matcher nodes (subject_in x.root) x.completion i path p edges (others xs) xs (never_none (words x.texts) (never x.texts) xs)));
+                  (λ xs these. sym (parts_alone_are (words x.texts) x.matcher nodes (subject_in x.root) x.completion i path p edges (others xs) xs (sym (ap (plan_told (words x.texts)) these) ∙ untold x.texts)));
               borrows = answer.borrows;
             }
+
+    -- so does each node if no keyword is ever told
+    pub node_by_plan : ((texts : Bool) → NeverTold (words texts)) → (plan : NodePlan K) → nodes.entries i ≡ plan → PlanReplies plan → NodeReplies words is_whole nodes count w mode path p busy s i r
+    node_by_plan never = node_untold (λ texts. never_plan (words texts) (never texts) (nodes.entries i))
 
   -- ---- entries
 

@@ -14,3 +14,4 @@ pub mod FaultWords
 pub mod ReplyWords
 pub mod UnitWords
 pub mod MatchWords
+pub mod KeptVerdicts

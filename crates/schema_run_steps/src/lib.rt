@@ -5,6 +5,7 @@ mod evaluation_order;
 mod evaluation_place;
 mod faults;
 mod guarded;
+mod kept_verdicts;
 mod matches;
 mod question;
 mod replies;
@@ -17,6 +18,7 @@ pub use evaluation_order::{AbsorbedUnit, EntryUnits, UnitsInOrder};
 pub use evaluation_place::EvaluationPlace;
 pub use faults::{begun, finished, is_accepting};
 pub use guarded::GuardedPair;
+pub use kept_verdicts::KeptVerdicts;
 pub use matches::{finished_match, step_match};
 pub use question::{Engine, NamedKeyword, Question, open_question};
 pub use replies::{

@@ -84,6 +84,7 @@ turn_of (step.MatchAt m subject below) = spot_match m.now subject.now below
 turn_of (step.Mark m) = spec.mark (marked_of m)
 turn_of step.Unmark = spec.unmark
 turn_of (step.Ecma text) = spec.ecma text.now
+turn_of (step.IsSpanned s) = spec.is_spanned (step_of s)
 turn_of step.Done = spec.done
 
 abbrev pub reply_of : Bool → Reply → spec.Reply

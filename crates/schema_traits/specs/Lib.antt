@@ -15,3 +15,4 @@ pub mod Readings
 pub mod Questions
 pub mod Members
 pub mod Walks
+pub mod Spannings

@@ -22,9 +22,11 @@ ghost use Rattle.schema_traits.specs.AskedAtOnce.{HoldsAsTold};
 ghost use Rattle.schema_traits.specs.AtOnce.{EndsAtOnce};
 ghost use Rattle.schema_traits.specs.FaultViews.{errors_in, faults_in, PassesBorrowed};
 ghost use Rattle.schema_traits.specs.KeywordViews.{GivesResult, mode_of, reply_of, answer_of, fresh, turn_of, Tells};
+ghost use Rattle.schema_traits.specs.Spannings.{SpansAsTold};
 ghost use Rattle.schema_traits.specs.UnitQuestions.{AsksNoUnits};
 
 use crate::asking::Asking;
+use crate::spanning::Spanning;
 use schema_reports::{
     AbsorbedResult, EvaluationNode, EvaluationResult, Instance, InstanceStep, OutOfMemory,
     ValidationError,
@@ -128,6 +130,10 @@ pub enum Step<'s> {
     ///
     /// No keyword of the standard makes it, only custom keywords.
     Ecma(&'s str),
+    /// Asks whether the other keywords of the schema span a member or an item.
+    ///
+    /// The answer is no for a keyword that is not told what they span. No keyword of today makes it.
+    IsSpanned(InstanceStep<'s>),
     /// Ends the run.
     Done,
 }
@@ -288,6 +294,23 @@ pub trait Validate: Drop {
     {
         let _ = instance;
         Asking::ByTurns
+    }
+
+    /// Returns what the keyword spans of the instance, if it holds.
+    ///
+    /// It has no default body, since a default body would have to be proved for every type.
+    /// Allocates nothing.
+    fn spanning<'s, 'i>(&'s self, instance: Instance<'i>) -> Spanning<'s, 'i>
+        ensures spans { (texts : Bool) → Tells texts (is_whole (shape self.now)) (subject_of instance.entry)
+            → SpansAsTold (words texts) (shape self.now) (subject_of instance.entry) result };
+
+    /// Returns whether the keyword is told what the other keywords of its schema span.
+    ///
+    /// Allocates nothing.
+    fn is_told(&self) -> bool
+        ensures told { (texts : Bool) → result ≡ (words texts).is_told (shape self.now) }
+    {
+        false
     }
 
     /// Returns whether the keyword declares that it is monotone.

@@ -13,6 +13,7 @@ mod meta;
 mod numbers;
 mod resolver;
 mod schema_place;
+mod spanning;
 mod table;
 
 pub use ascending::AscendingNames;
@@ -31,4 +32,5 @@ pub use meta::MetaValidators;
 pub use numbers::{Edge, PendingSchemaNode, SchemaNode};
 pub use resolver::{LookupError, PlacedSchema, Resolver, Target};
 pub use schema_place::{SchemaPath, SchemaPlace, SchemaStep};
+pub use spanning::Spanning;
 pub use table::{KeywordOrigin, KeywordTable, MakerReply, MakerStep, PendingKind};

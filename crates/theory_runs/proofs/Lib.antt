@@ -1,4 +1,5 @@
 pub mod NodeMeets
+pub mod TurnsMeet
 pub mod KeywordMeets
 pub mod NodeOutcomes
 pub mod MeetsAgain
@@ -10,6 +11,12 @@ pub mod NodeUnits
 pub mod UnitsAsked
 pub mod Verdicts
 pub mod VerdictTurns
+pub mod SpanRuns
+pub mod SpanEdges
+pub mod SpanWays
+pub mod SpanMeets
+pub mod SpanTurns
+pub mod ToldNode
 pub mod Measures
 pub mod Shared
 pub mod Spending

@@ -14,7 +14,7 @@ use Rattle.theory_definitions.specs.Laws.{Agrees}
 use Rattle.theory_definitions.specs.Guarded.{Children, NodeEdge, NodeForm, NodePart, NodePlan, Nodes, node_always, node_child, node_looked_at, node_never, node_part, node_reference, node_these, yes_run}
 use Rattle.theory_meaning.specs.Numbered.{left, subject_in}
 use Rattle.theory_meaning.specs.Untold.{NeverTold}
-use Rattle.theory_meaning.proofs.Untold.{met_alone_are, never_none}
+use Rattle.theory_meaning.proofs.Untold.{met_alone_are}
 use Rattle.theory_definitions.specs.Unfinished.{Remembered}
 use Rattle.theory_meaning.proofs.Falls.{from_below}
 use Rattle.schema_run_context.specs.Matches.{MeetsEach, Settling}
@@ -25,7 +25,8 @@ use Rattle.schema_run_steps.specs.ReplyModes.{Joins, accepts, refuses, reply_by}
 use Rattle.schema_run_steps.specs.NodeRuns.{Reads, Replies, child_says, edge_needs, edge_says, form_says}
 use Rattle.schema_run_context.proofs.Matches.{meets_append, meets_same}
 use Rattle.theory_runs.proofs.NodeOutcomes.{across_is, outcome_is}
-use Rattle.schema_run_steps.proofs.NodeRuns.{busy_case, entered_case, needs_of_entered, some_case}
+use Rattle.schema_node_table.specs.ToldNodes.{plan_told}
+use Rattle.schema_run_steps.proofs.NodeRuns.{busy_case, entered_case, needs_of_entered, never_plan, some_case}
 
 module _ {K R : Type 0} (words : Bool → Keywords K R) (is_whole : K → Bool) (nodes : Nodes K) (count : ℕ) (w : Settling) where
   -- ---- edges
@@ -77,21 +78,26 @@ module _ {K R : Type 0} (words : Bool → Keywords K R) (is_whole : K → Bool) 
     PlanMeets plan = (texts : Bool) (root : Data) (depth : ℕ) → Reads is_whole nodes count w p s (reading w texts root depth) → left nodes count i s busy ≤ depth
         → MeetsEach w.matcher old (elim plan [ node_always ↦ [] | node_never ↦ [] | node_these xs ↦ plan_met mode (parts_looked words nodes w texts root depth i path p busy xs) ]) new
 
-    module _ (never : (texts : Bool) → NeverTold (words texts)) where
-      pub meets_by_plan : (plan : NodePlan K) → nodes.entries i ≡ plan → PlanMeets plan → NodeMeets words is_whole nodes count w mode path p busy s old new i
-      meets_by_plan plan e h texts root depth reads l = go depth l reads
-        where
-          plan_is : (d : ℕ) (plan : NodePlan K)
-              → ◌≡◌ {A = List Met} (elim plan [ node_always ↦ [] | node_never ↦ [] | node_these xs ↦ plan_met mode (parts_looked words nodes w texts root d i path p busy xs) ])
-              (elim plan [ node_always ↦ [] | node_never ↦ [] | node_these xs ↦ node_met mode (node_looked_at (words texts) w.matcher nodes (subject_in root) w.assumptions i path p (edge_run words nodes w texts root d path p busy) xs) ])
-          plan_is d node_always = refl
-          plan_is d node_never = refl
-          plan_is d (node_these xs) = sym (met_alone_are (words texts) w.matcher nodes (subject_in root) w.assumptions i path p (edge_run words nodes w texts root d path p busy) mode xs (never_none (words texts) (never texts) xs))
+    -- A node of which no entry is told meets what its plan does at a depth of one less.
+    pub meets_untold : ((texts : Bool) → plan_told (words texts) (nodes.entries i) ≡ false) → (plan : NodePlan K) → nodes.entries i ≡ plan → PlanMeets plan → NodeMeets words is_whole nodes count w mode path p busy s old new i
+    meets_untold untold plan e h texts root depth reads l = go depth l reads
+      where
+        plan_is : (d : ℕ) (plan : NodePlan K) → plan_told (words texts) plan ≡ false
+            → ◌≡◌ {A = List Met} (elim plan [ node_always ↦ [] | node_never ↦ [] | node_these xs ↦ plan_met mode (parts_looked words nodes w texts root d i path p busy xs) ])
+            (elim plan [ node_always ↦ [] | node_never ↦ [] | node_these xs ↦ node_met mode (node_looked_at (words texts) w.matcher nodes (subject_in root) w.assumptions i path p (edge_run words nodes w texts root d path p busy) xs) ])
+        plan_is d node_always none = refl
+        plan_is d node_never none = refl
+        plan_is d (node_these xs) none = sym (met_alone_are (words texts) w.matcher nodes (subject_in root) w.assumptions i path p (edge_run words nodes w texts root d path p busy) mode xs none)
 
-          go : (d : ℕ) → left nodes count i s busy < d → Reads is_whole nodes count w p s (reading w texts root d) → MeetsEach w.matcher old ((deep_run words nodes w texts root d i path p busy).met mode) new
-          go zero l reads = absurd (omega arith)
-          go (suc d) l reads = meets_same w.matcher old new _ _ (plan_is d (nodes.entries i))
-              ((subst PlanMeets (sym e) h) texts root d (record { stands = reads.stands; tells = reads.tells; matcher = reads.matcher; completes = reads.completes }) (omega (arith, l)))
+        go : (d : ℕ) → left nodes count i s busy < d → Reads is_whole nodes count w p s (reading w texts root d) → MeetsEach w.matcher old ((deep_run words nodes w texts root d i path p busy).met mode) new
+        go zero l reads = absurd (omega arith)
+        go (suc d) l reads = meets_same w.matcher old new _ _ (plan_is d (nodes.entries i) (untold texts))
+            ((subst PlanMeets (sym e) h) texts root d (record { stands = reads.stands; tells = reads.tells; matcher = reads.matcher; completes = reads.completes }) (omega (arith, l)))
+
+    module _ (never : (texts : Bool) → NeverTold (words texts)) where
+      -- So does each node if no keyword is ever told.
+      pub meets_by_plan : (plan : NodePlan K) → nodes.entries i ≡ plan → PlanMeets plan → NodeMeets words is_whole nodes count w mode path p busy s old new i
+      meets_by_plan = meets_untold (λ texts. never_plan (words texts) (never texts) (nodes.entries i))
 
       pub meets_never : nodes.entries i ≡ node_never → old ≡ new → NodeMeets words is_whole nodes count w mode path p busy s old new i
       meets_never e same = meets_by_plan node_never e (λ texts root depth reads l. same)

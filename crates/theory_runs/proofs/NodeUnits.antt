@@ -11,7 +11,7 @@ use Rattle.theory_definitions.specs.Matching.{Assumptions, matching}
 use Rattle.theory_definitions.specs.Meaning.{Where}
 use Rattle.theory_meaning.specs.Numbered.{left, subject_in}
 use Rattle.theory_meaning.specs.Untold.{NeverTold}
-use Rattle.theory_meaning.proofs.Untold.{entries_alone_are, never_none}
+use Rattle.theory_meaning.proofs.Untold.{entries_alone_are}
 use Rattle.theory_definitions.specs.Reports.{Unit_, report_of}
 use Rattle.theory_definitions.specs.Guarded.{Children, NodeEdge, NodeForm, NodePart, NodePlan, node_always, node_at, node_child, node_entries_of, node_keyword, node_never, node_others, node_reference, node_these, same_edge, yes_unit, yes_valued}
 use Rattle.theory_definitions.specs.Units.{Entry, Valued, entry_units, false_unit, given_units, no_unit, plan_unit, reference_units, schema_unit, true_unit}
@@ -35,7 +35,8 @@ use Rattle.schema_traits.specs.declared.keyword.Answer as code_answer
 use Rattle.schema_traits.specs.declared.keyword.Reply as code_reply
 use Rattle.schema_run_context.proofs.Matches.{moved}
 use Rattle.theory_runs.proofs.NodeMeets.{meets_entered}
-use Rattle.schema_run_steps.proofs.NodeRuns.{busy_case, entered_case, free_case, none_case, some_case, stands_in}
+use Rattle.schema_node_table.specs.ToldNodes.{plan_told}
+use Rattle.schema_run_steps.proofs.NodeRuns.{busy_case, entered_case, free_case, never_plan, none_case, some_case, stands_in}
 
 module _ {K R : Type 0} (g : Setting K R) (q : Asking) (c : Context) where
   -- ---- edges
@@ -137,10 +138,11 @@ module _ {K R : Type 0} (g : Setting K R) (q : Asking) (c : Context) where
     PlanGives plan = (x : Reading) → Reads g.is_whole g.nodes g.count (settled_by g q c) q.place q.subject x → left g.nodes g.count i q.subject (busy g q c) ≤ x.depth
         → unit_of x.texts u ≡ elim plan [ node_always ↦ true_unit (there x) | node_never ↦ false_unit (g.words x.texts).texts (there x) (subject_in x.root q.place) | node_these xs ↦ plan_unit (there x) (g.nodes.annotations i) (parts_units g.words g.nodes x i q.path q.place (busy g q c) xs) ]
 
-    gives_by_plan : ((texts : Bool) → NeverTold (g.words texts)) → (plan : NodePlan K) → g.nodes.entries i ≡ plan → PlanGives plan → NodeGives g q c i u
-    gives_by_plan never plan e h x reads l = go x.depth l reads
+    -- A node of which no entry is told has the units of its plan at a depth of one less.
+    pub gives_untold : ((texts : Bool) → plan_told (g.words texts) (g.nodes.entries i) ≡ false) → (plan : NodePlan K) → g.nodes.entries i ≡ plan → PlanGives plan → NodeGives g q c i u
+    gives_untold untold plan e h x reads l = go x.depth l reads
       where
-        plan_is : (d : ℕ) (plan : NodePlan K)
+        plan_is : (d : ℕ) (plan : NodePlan K) → plan_told (g.words x.texts) plan ≡ false
             → ◌≡◌ {A = Unit_} (elim plan [ node_always ↦ true_unit (there x) | node_never ↦ false_unit (g.words x.texts).texts (there x) (subject_in x.root q.place) | node_these xs ↦ plan_unit (there x) (g.nodes.annotations i) (parts_units g.words g.nodes (record x { depth = d }) i q.path q.place (busy g q c) xs) ])
             (elim plan [
               | node_always ↦ true_unit (there x)
@@ -149,16 +151,19 @@ module _ {K R : Type 0} (g : Setting K R) (q : Asking) (c : Context) where
                   (edge_unit g.words g.nodes (record x { depth = d }) q.path q.place (busy g q c))
                   (node_others (g.words x.texts) x.matcher g.nodes (subject_in x.root) x.completion i q.path q.place (λ f b. (edge_valued g.words g.nodes (record x { depth = d }) q.path q.place (busy g q c) f b).outcome) xs) xs)
             ])
-        plan_is d node_always = refl
-        plan_is d node_never = refl
-        plan_is d (node_these xs) = ap (plan_unit (there x) (g.nodes.annotations i)) (sym (entries_alone_are (g.words x.texts) x.matcher g.nodes (subject_in x.root) x.completion i q.path q.place
+        plan_is d node_always none = refl
+        plan_is d node_never none = refl
+        plan_is d (node_these xs) none = ap (plan_unit (there x) (g.nodes.annotations i)) (sym (entries_alone_are (g.words x.texts) x.matcher g.nodes (subject_in x.root) x.completion i q.path q.place
             (edge_unit g.words g.nodes (record x { depth = d }) q.path q.place (busy g q c))
             (node_others (g.words x.texts) x.matcher g.nodes (subject_in x.root) x.completion i q.path q.place (λ f b. (edge_valued g.words g.nodes (record x { depth = d }) q.path q.place (busy g q c) f b).outcome) xs)
-            xs (never_none (g.words x.texts) (never x.texts) xs)))
+            xs none))
 
         go : (d : ℕ) → left g.nodes g.count i q.subject (busy g q c) < d → Reads g.is_whole g.nodes g.count (settled_by g q c) q.place q.subject (record x { depth = d }) → unit_of x.texts u ≡ deep_unit g.words g.nodes (record x { depth = d }) i q.path q.place (busy g q c)
         go zero l reads = absurd (omega arith)
-        go (suc d) l reads = (subst PlanGives (sym e) h) (record x { depth = d }) (record { stands = reads.stands; tells = reads.tells; matcher = reads.matcher; completes = reads.completes }) (omega (arith, l)) ∙ plan_is d (g.nodes.entries i)
+        go (suc d) l reads = (subst PlanGives (sym e) h) (record x { depth = d }) (record { stands = reads.stands; tells = reads.tells; matcher = reads.matcher; completes = reads.completes }) (omega (arith, l)) ∙ plan_is d (g.nodes.entries i) (untold x.texts)
+
+    gives_by_plan : ((texts : Bool) → NeverTold (g.words texts)) → (plan : NodePlan K) → g.nodes.entries i ≡ plan → PlanGives plan → NodeGives g q c i u
+    gives_by_plan never = gives_untold (λ texts. never_plan (g.words texts) (never texts) (g.nodes.entries i))
 
     module _ (never : (texts : Bool) → NeverTold (g.words texts)) (n : Where) (at_node : (x : Reading) → there x ≡ n) where
       pub gives_always : g.nodes.entries i ≡ node_always → ((texts : Bool) → unit_of texts u ≡ true_unit n) → NodeGives g q c i u

@@ -5,4 +5,6 @@ pub mod RunStates
 pub mod Visits
 pub mod UnitStates
 pub mod VerdictTurns
+pub mod SpanRuns
+pub mod SpanAnswers
 pub mod Answered
