@@ -2,7 +2,7 @@
 use crate::array::ArrayKeyword;
 use keyword_authoring::Progress;
 use schema_reports::{Instance, OutOfMemory};
-use schema_traits::{Answer, Mode, Reply, Step, Validate};
+use schema_traits::{Answer, Mode, Reply, Spanning, Step, Validate};
 use standard_basics::{BasicKeyword, Names, NamesRun};
 use std::alloc::Global;
 use std::marker::Model;
@@ -95,6 +95,13 @@ impl Validate for FusedKeyword {
         match self {
             FusedKeyword::Bench(keyword) => keyword.is_valid_at_once(instance),
             FusedKeyword::Array(keyword) => keyword.holds_at_once(instance),
+        }
+    }
+
+    fn spanning<'s, 'i>(&'s self, instance: Instance<'i>) -> Spanning<'s, 'i> {
+        match self {
+            FusedKeyword::Bench(keyword) => keyword.spanning(instance),
+            FusedKeyword::Array(keyword) => keyword.spanning(instance),
         }
     }
 

@@ -20,7 +20,7 @@ use crate::answers::{note, refuse};
 use crate::judging::{Judge, Judging, judge_on};
 use crate::run::Progress;
 use schema_reports::{Instance, OutOfMemory};
-use schema_traits::{Answer, Mode, Reply, Step, Validate};
+use schema_traits::{Answer, Mode, Reply, Spanning, Step, Validate};
 use std::alloc::Global;
 
 /// A keyword that judges: it asks numbered questions, and counts those accepted.
@@ -209,6 +209,11 @@ impl<J: JudgeKeyword> Validate for Judged<J> {
         answer: &mut Answer<'i>,
     ) -> Result<Step<'s>, OutOfMemory> {
         turn_judge(&self.keyword, alloc, run, instance, reply, answer)
+    }
+
+    fn spanning<'s, 'i>(&'s self, instance: Instance<'i>) -> Spanning<'s, 'i> {
+        let _ = instance;
+        Spanning::Nothing
     }
 
     fn monotone(&self) -> bool {

@@ -18,7 +18,7 @@ use crate::answers::{note, refuse};
 use crate::run::Progress;
 use crate::telling::tell_on;
 use schema_reports::{Instance, OutOfMemory};
-use schema_traits::{Answer, Mode, Reply, Step, Validate};
+use schema_traits::{Answer, Mode, Reply, Spanning, Step, Validate};
 use std::alloc::Global;
 
 /// A keyword that asks nothing: it accepts an instance, or reports one error.
@@ -159,6 +159,11 @@ impl<L: LeafKeyword> Validate for Leaf<L> {
     #[inline(always)]
     fn is_valid_at_once(&self, instance: Instance<'_>) -> Option<bool> {
         Some(self.keyword.holds(instance))
+    }
+
+    fn spanning<'s, 'i>(&'s self, instance: Instance<'i>) -> Spanning<'s, 'i> {
+        let _ = instance;
+        Spanning::Nothing
     }
 
     fn monotone(&self) -> bool {

@@ -19,7 +19,7 @@ use crate::answers::{note, refuse};
 use crate::run::Progress;
 use crate::telling::tell_on;
 use schema_reports::{Instance, OutOfMemory};
-use schema_traits::{Answer, Mode, Reply, Step, Validate};
+use schema_traits::{Answer, Mode, Reply, Spanning, Step, Validate};
 use std::alloc::Global;
 
 /// A keyword that asks nothing: it accepts an instance, or reports its errors.
@@ -190,6 +190,11 @@ impl<T: TellingKeyword> Validate for Telling<T> {
             Some(holds) => Some(holds),
             None => None,
         }
+    }
+
+    fn spanning<'s, 'i>(&'s self, instance: Instance<'i>) -> Spanning<'s, 'i> {
+        let _ = instance;
+        Spanning::Nothing
     }
 
     fn monotone(&self) -> bool {

@@ -12,7 +12,7 @@ ghost use Rattle.keyword_authoring.specs.Borrowing.{Borrows};
 
 use crate::run::Progress;
 use schema_reports::{Instance, OutOfMemory};
-use schema_traits::{Answer, Mode, Reply, Step, Validate};
+use schema_traits::{Answer, Mode, Reply, Spanning, Step, Validate};
 use std::alloc::Global;
 
 /// A keyword that takes its own turns. Its kind may depend on the instance.
@@ -120,6 +120,11 @@ impl<K: OwnKeyword> Validate for ByTurns<K> {
         answer: &mut Answer<'i>,
     ) -> Result<Step<'s>, OutOfMemory> {
         self.keyword.take_turn(alloc, run, instance, reply, answer)
+    }
+
+    fn spanning<'s, 'i>(&'s self, instance: Instance<'i>) -> Spanning<'s, 'i> {
+        let _ = instance;
+        Spanning::Nothing
     }
 
     fn monotone(&self) -> bool {

@@ -22,7 +22,7 @@ use crate::passing::next_number;
 use crate::run::Progress;
 use crate::telling::tell_on;
 use schema_reports::{Instance, OutOfMemory};
-use schema_traits::{Answer, Below, Mode, Reply, Step, Validate};
+use schema_traits::{Answer, Below, Mode, Reply, Spanning, Step, Validate};
 use std::alloc::Global;
 
 /// What a keyword asks.
@@ -360,6 +360,11 @@ impl<P: PlannedKeyword> Validate for Planned<P> {
             Plan::AtLeast(_, _) => None,
             Plan::Within(_, _, _) => None,
         }
+    }
+
+    fn spanning<'s, 'i>(&'s self, instance: Instance<'i>) -> Spanning<'s, 'i> {
+        let _ = instance;
+        Spanning::Nothing
     }
 
     fn monotone(&self) -> bool {

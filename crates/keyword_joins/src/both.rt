@@ -1,6 +1,6 @@
 //! A keyword of one of two types.
 use schema_reports::{Instance, OutOfMemory};
-use schema_traits::{Answer, Asking, Mode, Reply, Step, Validate};
+use schema_traits::{Answer, Asking, Mode, Reply, Spanning, Step, Validate};
 use std::alloc::Global;
 
 /// A value of one of two types.
@@ -88,6 +88,13 @@ impl<A: Validate, B: Validate> Validate for Both<A, B> {
         match self {
             Both::First(keyword) => keyword.asking(instance),
             Both::Second(keyword) => keyword.asking(instance),
+        }
+    }
+
+    fn spanning<'s, 'i>(&'s self, instance: Instance<'i>) -> Spanning<'s, 'i> {
+        match self {
+            Both::First(keyword) => keyword.spanning(instance),
+            Both::Second(keyword) => keyword.spanning(instance),
         }
     }
 

@@ -7,7 +7,7 @@ use crate::not::turn_not;
 use crate::one_of::turn_one_of;
 use keyword_authoring::{Progress, branch_on};
 use schema_reports::{Instance, OutOfMemory};
-use schema_traits::{Answer, Mode, Reply, Step, Validate};
+use schema_traits::{Answer, Mode, Reply, Spanning, Step, Validate};
 use serde_json::Value;
 use std::alloc::Global;
 use std::marker::Model;
@@ -102,6 +102,11 @@ impl Validate for Applicator {
                 branch_on(alloc, *accepted, *refused, run, reply, answer)
             }
         }
+    }
+
+    fn spanning<'s, 'i>(&'s self, instance: Instance<'i>) -> Spanning<'s, 'i> {
+        let _ = instance;
+        Spanning::Nothing
     }
 
     fn monotone(&self) -> bool {

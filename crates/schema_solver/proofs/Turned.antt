@@ -5,8 +5,8 @@ use Rattle.std.proofs.lemmas.List.Elements.{All-contains}
 use Rattle.std.proofs.lemmas.Bool.{or_left}
 use Rattle.serde_json.specs.Data.{Data}
 use Rattle.serde_json.specs.View.{view}
-use Rattle.theory_definitions.specs.Instance.{Place, Subject, Text}
-use Rattle.theory_definitions.specs.Keywords.{Answer, Marked, MatchPoint, Mode, Question, Reply, Turn, ask, done, ecma, for_verdict, mark, match_text, no_reply, truth, unmark}
+use Rattle.theory_definitions.specs.Instance.{Place, Step, Subject, Text}
+use Rattle.theory_definitions.specs.Keywords.{Answer, Marked, MatchPoint, Mode, Question, Reply, Turn, ask, done, ecma, for_verdict, is_spanned, mark, match_text, no_reply, truth, unmark}
 use Rattle.theory_definitions.specs.Matching.{Pair, completed, completion_of, finished, settled}
 use Rattle.theory_definitions.specs.Remembering.{AlwaysAsksVerdict, AsksVerdict, EachAsksVerdicts}
 use Rattle.theory_definitions.specs.Runs.{with_mark, without_last}
@@ -230,6 +230,15 @@ module _ {K R : Type 0} (g : Setting K R) where
           leads_turned c c (grows_none p (found_of c)) l l (λ is. is) marks marks r r' reply (λ texts. truth b) (ecma text) turned stepped (λ e. cc e)
           (λ texts tells given consistent. refl)
           (λ texts tells given consistent. ap truth (sym is))
+
+      -- after a question whether the others span a step
+      pub leads_span : (c : Solver) (l : Bool) (marks : List Marked) (r r' : Bool → R) (reply : Bool → Reply) (step : Step)
+          → Turned s m r r' reply → Stepped s m r reply (is_spanned step)
+          → Leads c l marks r reply → Leads c l marks r' (λ texts. truth false)
+      leads_span c l marks r r' reply step turned stepped =
+          leads_turned c c (grows_none p (found_of c)) l l (λ is. is) marks marks r r' reply (λ texts. truth false) (is_spanned step) turned stepped (λ e. cc e)
+          (λ texts tells given consistent. refl)
+          (λ texts tells given consistent. refl)
 
       -- after a mark, and after the last one is taken away
       pub leads_marked : (c c' : Solver) → Goes g p c c' → (l : Bool) (marks marks' : List Marked) (r r' : Bool → R) (reply : Bool → Reply) (k : Marked) (b : Bool)

@@ -10,7 +10,7 @@ use crate::unexpected::NoLaterItems;
 use crate::wants::Wants;
 use keyword_authoring::{LeafKeyword, Planned, Progress, items_of, turn_leaf};
 use schema_reports::{Instance, OutOfMemory};
-use schema_traits::{Answer, Asking, Mode, Reply, Step, Validate};
+use schema_traits::{Answer, Asking, Mode, Reply, Spanning, Step, Validate};
 use std::alloc::Global;
 
 /// A keyword that applies schemas to items, or if a member is present.
@@ -125,6 +125,11 @@ impl Validate for StandardApplicator {
             },
             _ => Asking::ByTurns,
         }
+    }
+
+    fn spanning<'s, 'i>(&'s self, instance: Instance<'i>) -> Spanning<'s, 'i> {
+        let _ = instance;
+        Spanning::Nothing
     }
 
     fn monotone(&self) -> bool {

@@ -31,7 +31,7 @@ use crate::types::{fits_one, tell_type, tell_types};
 use keyword_authoring::{Progress, branch_on, items_of, members_of, tell_on};
 use schema_applicators::{turn_all_of, turn_any_of, turn_not, turn_one_of};
 use schema_reports::{Instance, OutOfMemory};
-use schema_traits::{Answer, AscendingNames, Asking, Mode, Reply, Step, Validate};
+use schema_traits::{Answer, AscendingNames, Asking, Mode, Reply, Spanning, Step, Validate};
 use serde_json::Value;
 use std::alloc::Global;
 use std::marker::Model;
@@ -306,6 +306,11 @@ impl Validate for BasicKeyword {
             },
             _ => Asking::ByTurns,
         }
+    }
+
+    fn spanning<'s, 'i>(&'s self, instance: Instance<'i>) -> Spanning<'s, 'i> {
+        let _ = instance;
+        Spanning::Nothing
     }
 
     fn monotone(&self) -> bool {

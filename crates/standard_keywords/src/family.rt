@@ -1,6 +1,6 @@
 //! The families of the standard's keywords, as one type.
 use schema_reports::{Instance, OutOfMemory};
-use schema_traits::{Answer, Asking, CloneKeyword, Mode, Reply, Step, Validate};
+use schema_traits::{Answer, Asking, CloneKeyword, Mode, Reply, Spanning, Step, Validate};
 use std::alloc::Global;
 
 /// A value of one of the five families of the standard's keywords.
@@ -126,6 +126,16 @@ impl<A: Validate, L: Validate, P: Validate, F: Validate, B: Validate> Validate
             Family::PatternProperties(keyword) => keyword.asking(instance),
             Family::Format(keyword) => keyword.asking(instance),
             Family::Basic(keyword) => keyword.asking(instance),
+        }
+    }
+
+    fn spanning<'s, 'i>(&'s self, instance: Instance<'i>) -> Spanning<'s, 'i> {
+        match self {
+            Family::Assertion(keyword) => keyword.spanning(instance),
+            Family::Applicator(keyword) => keyword.spanning(instance),
+            Family::PatternProperties(keyword) => keyword.spanning(instance),
+            Family::Format(keyword) => keyword.spanning(instance),
+            Family::Basic(keyword) => keyword.spanning(instance),
         }
     }
 

@@ -22,7 +22,7 @@ use crate::names::{NamesLeft, Texts};
 use crate::telling::unexpected_text;
 use keyword_authoring::{ask_match, goes_on, note, refuse, says_yes};
 use schema_reports::{Instance, OutOfMemory};
-use schema_traits::{Answer, Below, Mode, Reply, Step, Validate};
+use schema_traits::{Answer, Below, Mode, Reply, Spanning, Step, Validate};
 use serde_json::{Map, Value};
 use std::alloc::Global;
 
@@ -514,6 +514,11 @@ impl Validate for GatedKeyword {
             }
             _ => None,
         }
+    }
+
+    fn spanning<'s, 'i>(&'s self, instance: Instance<'i>) -> Spanning<'s, 'i> {
+        let _ = instance;
+        Spanning::Nothing
     }
 
     fn monotone(&self) -> bool {

@@ -7,7 +7,7 @@ ghost use Rattle.keyword_authoring.specs.FaultWords.{IsOfReply};
 
 use crate::refusals::tell;
 use schema_reports::{Instance, OutOfMemory};
-use schema_traits::{Answer, Below, Marked, Mode, Reply, Step, Validate};
+use schema_traits::{Answer, Below, Marked, Mode, Reply, Spanning, Step, Validate};
 use std::alloc::Global;
 
 /// The keyword.
@@ -108,6 +108,11 @@ impl Validate for BothOnce {
                 Ok(Step::Done)
             }
         }
+    }
+
+    fn spanning<'s, 'i>(&'s self, instance: Instance<'i>) -> Spanning<'s, 'i> {
+        let _ = instance;
+        Spanning::Nothing
     }
 
     fn monotone(&self) -> bool {

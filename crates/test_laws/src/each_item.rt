@@ -8,7 +8,7 @@ ghost use Rattle.keyword_authoring.specs.FaultWords.{IsOfReply};
 use crate::refusals::tell;
 use keyword_authoring::item_count;
 use schema_reports::{Instance, OutOfMemory};
-use schema_traits::{Answer, Below, Mode, Reply, Step, Validate};
+use schema_traits::{Answer, Below, Mode, Reply, Spanning, Step, Validate};
 use std::alloc::Global;
 
 /// The keyword.
@@ -78,6 +78,11 @@ impl Validate for EachItem {
         }
         tell(alloc, run.1, answer)?;
         Ok(Step::Done)
+    }
+
+    fn spanning<'s, 'i>(&'s self, instance: Instance<'i>) -> Spanning<'s, 'i> {
+        let _ = instance;
+        Spanning::Nothing
     }
 
     fn monotone(&self) -> bool {

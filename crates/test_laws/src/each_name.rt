@@ -12,7 +12,7 @@ use crate::each_item::says_no;
 use crate::own_spot::OwnSpot;
 use crate::refusals::tell;
 use schema_reports::{Instance, OutOfMemory};
-use schema_traits::{Answer, Mode, Reply, Step, Validate};
+use schema_traits::{Answer, Mode, Reply, Spanning, Step, Validate};
 use serde_json::{Map, Value};
 use std::alloc::Global;
 use std::marker::Model;
@@ -139,6 +139,11 @@ impl Validate for EachName {
                 Ok(Step::Done)
             }
         }
+    }
+
+    fn spanning<'s, 'i>(&'s self, instance: Instance<'i>) -> Spanning<'s, 'i> {
+        let _ = instance;
+        Spanning::Nothing
     }
 
     fn monotone(&self) -> bool {

@@ -3,7 +3,7 @@
 //! It first asks its only child, and drops the reply. So its verdicts, errors and units are right
 //! whatever it requests, and only the laws about requests restrict what it may request.
 use schema_reports::{Instance, OutOfMemory};
-use schema_traits::{Answer, Below, Mode, Reply, Step, Validate};
+use schema_traits::{Answer, Below, Mode, Reply, Spanning, Step, Validate};
 use std::alloc::Global;
 
 /// The keyword.
@@ -57,6 +57,11 @@ impl Validate for InVain {
         }
         *run = true;
         Ok(Step::Ask(0, Below::Here, Mode::Verdict))
+    }
+
+    fn spanning<'s, 'i>(&'s self, instance: Instance<'i>) -> Spanning<'s, 'i> {
+        let _ = instance;
+        Spanning::Nothing
     }
 
     fn monotone(&self) -> bool {

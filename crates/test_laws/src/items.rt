@@ -11,7 +11,7 @@ ghost use Rattle.test_laws.specs.ItemsTurns.{StepsItems, TurnsItems};
 use crate::marking::{Stage, after_step, first_stage};
 use keyword_authoring::{Asks, Plan, Planned, PlannedKeyword, Progress, is_list};
 use schema_reports::{Instance, OutOfMemory};
-use schema_traits::{Answer, Marked, Mode, PendingSchemaNode, Reply, Step, Validate};
+use schema_traits::{Answer, Marked, Mode, PendingSchemaNode, Reply, Spanning, Step, Validate};
 use std::alloc::Global;
 
 /// The keywords, by how they handle an instance.
@@ -171,6 +171,11 @@ impl Validate for ItemsKeyword {
             Stage::Works => self.work(alloc, run, instance, reply, answer),
             Stage::Over => Ok(Step::Done),
         }
+    }
+
+    fn spanning<'s, 'i>(&'s self, instance: Instance<'i>) -> Spanning<'s, 'i> {
+        let _ = instance;
+        Spanning::Nothing
     }
 
     fn monotone(&self) -> bool {

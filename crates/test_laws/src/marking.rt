@@ -39,6 +39,7 @@ pub fn after_step<'s>(step: Step<'s>, marks: bool) -> (Stage, Step<'s>)
         Step::Mark(marked) => (Stage::Works, Step::Mark(marked)),
         Step::Unmark => (Stage::Works, Step::Unmark),
         Step::Ecma(text) => (Stage::Works, Step::Ecma(text)),
+        Step::IsSpanned(step) => (Stage::Works, Step::IsSpanned(step)),
         Step::Done => {
             let last = if marks { Step::Unmark } else { Step::Done };
             (Stage::Over, last)

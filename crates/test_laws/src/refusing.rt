@@ -3,7 +3,7 @@
 //! Its run has no state at all: a turn takes the mode from the answer.
 use crate::refusals::tell;
 use schema_reports::{Instance, OutOfMemory};
-use schema_traits::{Answer, Mode, Reply, Step, Validate};
+use schema_traits::{Answer, Mode, Reply, Spanning, Step, Validate};
 use std::alloc::Global;
 
 /// The keyword.
@@ -53,6 +53,11 @@ impl Validate for Refusing {
         drop(reply);
         tell(alloc, false, answer)?;
         Ok(Step::Done)
+    }
+
+    fn spanning<'s, 'i>(&'s self, instance: Instance<'i>) -> Spanning<'s, 'i> {
+        let _ = instance;
+        Spanning::Nothing
     }
 
     fn monotone(&self) -> bool {

@@ -7,7 +7,7 @@ ghost use Rattle.test_parts.specs.Detours.{match_at, matches_before, pattern_at,
 use schema_drafts::BuiltinKeyword;
 use schema_node_table::{Entry, EntryForm, KeywordName, NodeForm, Nodes};
 use schema_reports::{Instance, Location, OutOfMemory};
-use schema_traits::{Answer, Mode, Reply, Step, Validate};
+use schema_traits::{Answer, Mode, Reply, Spanning, Step, Validate};
 use standard_basics::{BasicKeyword, NamesRun, text_of};
 use std::alloc::Global;
 use std::marker::Model;
@@ -134,6 +134,11 @@ impl Validate for DetourKeyword {
         run.0 -= 1;
         let text = text_or_empty(instance);
         Ok(match_at(self.patterns.as_slice(), text, run.0))
+    }
+
+    fn spanning<'s, 'i>(&'s self, instance: Instance<'i>) -> Spanning<'s, 'i> {
+        let _ = instance;
+        Spanning::Nothing
     }
 
     fn monotone(&self) -> bool {

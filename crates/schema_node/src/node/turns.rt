@@ -98,6 +98,7 @@ fn run_turns<'i, K: Validate, M: Matcher>(
                 let valid = context.is_valid_ecma_regex(engine.alloc, engine.matcher, text)?;
                 reply = Reply::Truth(valid);
             }
+            Step::IsSpanned(_) => reply = Reply::Truth(false),
             Step::Mark(marked) => {
                 let held = context.enter_marking(children, marked)?;
                 reply = Reply::Truth(held);

@@ -106,6 +106,7 @@ fn take_turns<'i, K: Validate, M: Matcher>(
                 let valid = context.is_valid_ecma_regex(engine.alloc, engine.matcher, text)?;
                 told = Some(valid);
             }
+            Step::IsSpanned(_) => told = Some(false),
             Step::Mark(marked) => {
                 let held = context.enter_marking(children, marked)?;
                 told = Some(held);

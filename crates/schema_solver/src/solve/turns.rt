@@ -129,6 +129,7 @@ fn solver_turns<'i, K: Validate, M: Matcher>(
                 let valid = is_pattern(engine, text)?;
                 told = Some(valid);
             }
+            Step::IsSpanned(_) => told = Some(false),
             Step::Mark(marked) => {
                 let held = context.enter_marking(children, marked)?;
                 told = Some(held);

@@ -5,7 +5,7 @@ use Rattle.schema_reports.specs.ReportViews.{BorrowsItsPlace}
 use Rattle.schema_traits.specs.FaultViews.{PassesBorrowed}
 use Rattle.std.proofs.Common.{rules, arith, ◌≡◌, ◌≤◌, ◌∙◌, ◌==◌, ◌+◌, Bool, sym, refl, ap, subst, map, option_map, length, Some, false, true, List, [], ◌∷◌, ◌++◌, drop}
 use Rattle.schema_reports.specs.InstanceViews.{subject_of, step_of}
-use Rattle.theory_definitions.specs.Keywords.{Question, ask, ecma, mark, match_text, no_reply, truth, unmark}
+use Rattle.theory_definitions.specs.Keywords.{Question, ask, ecma, is_spanned, mark, match_text, no_reply, truth, unmark}
 use Rattle.schema_run_steps.specs.EvaluationPlaces.{CarriesItsNumber, steps_to}
 use Rattle.schema_run_steps.specs.GuardedPairs.{place_of}
 use Rattle.theory_runs.proofs.Placing.{carries_on, may_on, pair_busy, pair_entered, stands_at, stands_below, stands_on}
@@ -38,13 +38,13 @@ use Rattle.schema_traits.specs.declared.keyword.Reply.TheVariants as told
 use Rattle.theory_runs.proofs.GoesOn.{asked_across, computed_meets, computed_says, computed_stays, right_matched, right_same}
 use Rattle.theory_runs.proofs.RightVerdicts.{laid_below}
 use Rattle.schema_run_context.proofs.Pairs.{busy-below, busy-pushed, deeper-below, deeper-pushed}
-use Rattle.schema_run_steps.proofs.KeywordTurns.{falls_turned, faults_lie, keyword_says, right_reply, silent, silent_reads, tells_nothing, asked_on, asks_there, begins_on, can_after, ended_on, mark_taken_on, marked_on, matched_on, matches_there, told_pattern_on, ask_goes_on, match_goes_on, ecma_goes_on, mark_goes_on, unmark_goes_on}
+use Rattle.schema_run_steps.proofs.KeywordTurns.{falls_turned, faults_lie, keyword_says, right_reply, silent, silent_reads, tells_nothing, asked_on, asks_there, begins_on, can_after, ended_on, mark_taken_on, marked_on, matched_on, matches_there, told_pattern_on, told_span_on, ask_goes_on, match_goes_on, ecma_goes_on, span_goes_on, mark_goes_on, unmark_goes_on}
 use Rattle.theory_meaning.proofs.Alike.{asked_alike}
 use Rattle.schema_traits.proofs.Replies.{if_ok_always, if_ok_both, if_ok_mono}
 use Rattle.schema_run_steps.proofs.NodeRuns.{agrees_answers, agrees_says, child_here, edge_busy, falls_below, falls_here, form_reference, leaf_accepts, needs_of_entered, node_by_plan, one_entry, settled_entries, stands_in, start_entries, where_is}
 use Rattle.schema_run_context.proofs.Matches.{after_assumes, moved, meets_append, meets_same}
 use Rattle.schema_run_steps.proofs.AskedMatches.{step_asks}
-use Rattle.theory_runs.proofs.KeywordMeets.{meets_all, meets_asked, meets_begun, meets_mark_taken, meets_marked, meets_matched, meets_nothing}
+use Rattle.theory_runs.proofs.KeywordMeets.{meets_all, meets_asked, meets_begun, meets_mark_taken, meets_marked, meets_matched, meets_nothing, meets_span}
 use Rattle.theory_runs.proofs.NodeMeets.{end_met, last_met, leaf_holds, leaf_no, leaf_yes, meets_below, meets_busy, meets_here, meets_never, meets_reference, meets_these, next_met, nothing_refused, other_entry, stops_at, meets_by_plan, stops}
 use Rattle.schema_traits.proofs.Drops.{drop_at, drop_past}
 use Rattle.schema_run_steps.proofs.NodeParts.{absolute_is, keyword_children, part_at, plain_there, plan_is, reference_edge, replies_refused, tells_keyword, plan_none}
@@ -708,6 +708,21 @@ turns::run_turns-turns-smaller-in-Ecma g t c =
     let step = rw c.in-Ecma.is at (c.in_ok-step.ensures.steps false (tells_nothing (g.K.Validate.is_whole m) s)) in
     falls_turned (g.K.Validate.words false) m (g.K.Validate.absorbed m) (g.K.Validate.remaining m) (g.K.Validate.can_be false m) (g.K.Validate.ends false m) (g.K.Validate.fits false m) (g.met.K.Validate.turn_laws false m) s (c.turns.run, answer_of false c.turns.answer) (c.turn.new.run, answer_of false c.turn.new.answer) told (ecma c.in-Ecma.text.now) c.turns.invariant.can turn step (ecma_goes_on c.in-Ecma.text.now)
 
+pub turns::run_turns-turns-smaller-in-IsSpanned : goal.turns::run_turns-turns-smaller-in-IsSpanned
+turns::run_turns-turns-smaller-in-IsSpanned g t c =
+    let ns = numbered g.K.Validate.shape c.args.engine.now.nodes.now in
+    let w = settling (g.M.Matcher.matching c.args.engine.now.matcher.now) c.args.context.now.remembered.assumptions in
+    let p = steps_to c.args.question.now.place.now in
+    let s = subject_of c.args.question.now.instance in
+    let m = g.K.Validate.shape c.args.keyword.now.keyword.now in
+    let es = map (option_map edge_of) c.args.keyword.now.children.now in
+    let busy = busy_at p c.args.context.now.in_progress in
+    let name = c.args.keyword.now.name.now in
+    let told = reply_of false c.turns.reply in
+    let turn = c.in_ok-step.ensures.turns false (tells_nothing (g.K.Validate.is_whole m) s) in
+    let step = rw c.in-IsSpanned.is at (c.in_ok-step.ensures.steps false (tells_nothing (g.K.Validate.is_whole m) s)) in
+    falls_turned (g.K.Validate.words false) m (g.K.Validate.absorbed m) (g.K.Validate.remaining m) (g.K.Validate.can_be false m) (g.K.Validate.ends false m) (g.K.Validate.fits false m) (g.met.K.Validate.turn_laws false m) s (c.turns.run, answer_of false c.turns.answer) (c.turn.new.run, answer_of false c.turn.new.answer) told (is_spanned (step_of c.in-IsSpanned.field-0)) c.turns.invariant.can turn step (span_goes_on (step_of c.in-IsSpanned.field-0))
+
 pub turns::run_turns-step_match-requires : goal.turns::run_turns-step_match-requires
 turns::run_turns-step_match-requires g t c =
     let ns = numbered g.K.Validate.shape c.args.engine.now.nodes.now in
@@ -807,6 +822,44 @@ turns::run_turns-turns-preserved-in-Ecma g t c =
           let turn' = c.in_ok-step.ensures.turns texts tells in
           let falls = falls_turned (g.K.Validate.words texts) m (g.K.Validate.absorbed m) (g.K.Validate.remaining m) (g.K.Validate.can_be texts m) (g.K.Validate.ends texts m) (g.K.Validate.fits texts m) (g.met.K.Validate.turn_laws texts m) s (c.turns.run, answer_of texts c.turns.answer) (c.turn.new.run, answer_of texts c.turn.new.answer) (reply_of texts c.turns.reply) (ecma text) (c.turns.invariant.leads (reading w texts root depth) reads l).can turn' step' (ecma_goes_on text) in
           meets_nothing (g.K.Validate.words texts) w.matcher w.assumptions (node_at (g.K.Validate.words texts) w.matcher ns (subject_in root) c.args.node.0 (path_of c.args.question.now.path.now) p) s (child_run g.K.Validate.words ns w texts root depth (path_of c.args.question.now.path.now) p busy es) (same_edge es) name m (g.K.Validate.remaining m s) _ _ _ _ _ _ _ _ _ _ text refl turn' step' falls (ap truth c.in_ok-valid-in-Ecma.ensures.valid) refl (c.turns.invariant.met texts root depth reads l);
+    }
+
+pub turns::run_turns-turns-preserved-in-IsSpanned : goal.turns::run_turns-turns-preserved-in-IsSpanned
+turns::run_turns-turns-preserved-in-IsSpanned g t c =
+    let ns = numbered g.K.Validate.shape c.args.engine.now.nodes.now in
+    let w = settling (g.M.Matcher.matching c.args.engine.now.matcher.now) c.args.context.now.remembered.assumptions in
+    let p = steps_to c.args.question.now.place.now in
+    let s = subject_of c.args.question.now.instance in
+    let m = g.K.Validate.shape c.args.keyword.now.keyword.now in
+    let es = map (option_map edge_of) c.args.keyword.now.children.now in
+    let busy = busy_at p c.args.context.now.in_progress in
+    let name = c.args.keyword.now.name.now in
+    let told = reply_of false c.turns.reply in
+    let turn = c.in_ok-step.ensures.turns false (tells_nothing (g.K.Validate.is_whole m) s) in
+    let below = step_of c.in-IsSpanned.field-0 in
+    let step = rw c.in-IsSpanned.is at (c.in_ok-step.ensures.steps false (tells_nothing (g.K.Validate.is_whole m) s)) in
+    record {
+      root = c.turns.invariant.root;
+      kept = c.turns.invariant.kept;
+      assumes = c.turns.invariant.assumes;
+      stays = c.turns.invariant.stays;
+      can = can_after (g.K.Validate.words false) m (g.K.Validate.absorbed m) (g.K.Validate.remaining m) (g.K.Validate.can_be false m) (g.K.Validate.ends false m) (g.K.Validate.fits false m) (g.met.K.Validate.turn_laws false m) s (c.turns.run, answer_of false c.turns.answer) (c.turn.new.run, answer_of false c.turn.new.answer) told c.turns.invariant.can turn;
+      quiet = c.turns.invariant.quiet;
+      counted = c.turns.invariant.counted;
+      worked = c.turns.invariant.worked;
+      borrows = λ root at_place.
+          let i = c.turns.invariant.borrows root at_place in
+          (All-nil (BorrowsItsPlace root), c.in_ok-step.ensures.borrows root i.0 i.1);
+      leads = λ x reads l.
+          let tells = tells_keyword g.K.Validate.is_whole ns (length c.args.engine.now.nodes.now) w p s x c.args.node.0 m es c.requires.may.known reads c.requires.form in
+          told_span_on (g.K.Validate.words x.texts) m (g.K.Validate.absorbed m) (g.K.Validate.remaining m) (g.K.Validate.can_be x.texts m) (g.K.Validate.ends x.texts m) (g.K.Validate.fits x.texts m) (g.met.K.Validate.turn_laws x.texts m) s x (mode_of c.args.question.now.mode) (child_says g.K.Validate.words ns x (path_of c.args.question.now.path.now) p busy es) (child_unit g.K.Validate.words ns x (path_of c.args.question.now.path.now) p busy es) (same_edge es) c.turns.context.marking c.turns.context.marking (c.turns.run, answer_of x.texts c.turns.answer) (c.turn.new.run, answer_of x.texts c.turn.new.answer)
+          (reply_of x.texts c.turns.reply) (truth false) below refl (c.turns.invariant.leads x reads l) (c.in_ok-step.ensures.turns x.texts tells) (rw c.in-IsSpanned.is at (c.in_ok-step.ensures.steps x.texts tells)) refl;
+      met = λ texts root depth reads l.
+          let tells = tells_keyword g.K.Validate.is_whole ns (length c.args.engine.now.nodes.now) w p s (reading w texts root depth) c.args.node.0 m es c.requires.may.known reads c.requires.form in
+          let step' = rw c.in-IsSpanned.is at (c.in_ok-step.ensures.steps texts tells) in
+          let turn' = c.in_ok-step.ensures.turns texts tells in
+          let falls = falls_turned (g.K.Validate.words texts) m (g.K.Validate.absorbed m) (g.K.Validate.remaining m) (g.K.Validate.can_be texts m) (g.K.Validate.ends texts m) (g.K.Validate.fits texts m) (g.met.K.Validate.turn_laws texts m) s (c.turns.run, answer_of texts c.turns.answer) (c.turn.new.run, answer_of texts c.turn.new.answer) (reply_of texts c.turns.reply) (is_spanned below) (c.turns.invariant.leads (reading w texts root depth) reads l).can turn' step' (span_goes_on below) in
+          meets_span (g.K.Validate.words texts) w.matcher w.assumptions (node_at (g.K.Validate.words texts) w.matcher ns (subject_in root) c.args.node.0 (path_of c.args.question.now.path.now) p) s (child_run g.K.Validate.words ns w texts root depth (path_of c.args.question.now.path.now) p busy es) (same_edge es) name m (g.K.Validate.remaining m s) _ _ _ _ _ _ _ _ _ _ below refl turn' step' falls refl refl (c.turns.invariant.met texts root depth reads l);
     }
 
 pub turns::run_turns-turns-smaller-in-Mark : goal.turns::run_turns-turns-smaller-in-Mark

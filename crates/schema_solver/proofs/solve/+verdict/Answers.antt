@@ -1,6 +1,6 @@
 use Rattle.std.proofs.Common.{◌≡◌, ◌∙◌, ◌+◌, ◌*◌, ◌<◌, ◌≤◌, ◌||◌, not, ℕ, Bool, suc, zero, arith, sym, refl, rules, ap, ap₂, subst, drop, map, option_map, string_bytes, length, Some, None, false, true, List, [], ◌∷◌, ◌++◌}
 use Rattle.serde_json.specs.View.{view}
-use Rattle.theory_definitions.specs.Keywords.{down, here, Answer, Question, ask, done, ecma, mark, match_text, no_reply, truth, unmark}
+use Rattle.theory_definitions.specs.Keywords.{down, here, Answer, Question, ask, done, ecma, is_spanned, mark, match_text, no_reply, truth, unmark}
 use Rattle.theory_fixed_points.specs.NodesSay.{KeepsUntold}
 use Rattle.theory_definitions.specs.Instance.{after_step}
 use Rattle.theory_definitions.specs.Guarded.{node_keyword}
@@ -47,8 +47,8 @@ use Rattle.schema_solver.specs.ToldAtOnce.{waiting}
 use Rattle.schema_solver.proofs.solve.+verdict.Goals.{entries::solve_entries-in-None+in-None-waits, entries::solve_entries-in-Some+else-not-valid, edges::solve_edge-then-edge-via-then-edge, edges::solve_edge-then-edge-via-else-edge+then-not-is_followed}
 use Rattle.theory_definitions.specs.Matching.{Pair}
 use Rattle.schema_run_steps.specs.NodeRuns.{HasChildren, HasForm, form_at_work}
-use Rattle.schema_run_steps.proofs.KeywordTurns.{asks_there, can_after, falls_turned, tells_nothing, ask_goes_on, match_goes_on, ecma_goes_on, mark_goes_on, unmark_goes_on}
-use Rattle.schema_solver.proofs.Turned.{asked_verdict, asks_begun, asks_on, begun_with, can_begun, carries_on, goes_marked, leads_asked, leads_begun, leads_ended, leads_marked, leads_matched, leads_told, leads_unmarked, says_after, stepped_by, turned_by}
+use Rattle.schema_run_steps.proofs.KeywordTurns.{asks_there, can_after, falls_turned, tells_nothing, ask_goes_on, match_goes_on, ecma_goes_on, span_goes_on, mark_goes_on, unmark_goes_on}
+use Rattle.schema_solver.proofs.Turned.{asked_verdict, asks_begun, asks_on, begun_with, can_begun, carries_on, goes_marked, leads_asked, leads_begun, leads_ended, leads_marked, leads_matched, leads_span, leads_told, leads_unmarked, says_after, stepped_by, turned_by}
 use Rattle.schema_traits.proofs.AnswersSay.{present_there, says_by_questions}
 use Rattle.schema_solver.proofs.ByQuestions.{match_says, question_ends, question_goes_on, questions_begin, questions_end}
 use Rattle.schema_solver.proofs.Stopping.{solved_none, stops_begun, stops_deep, stops_for_memory, stops_full, stops_here, stops_leaning, stops_on, stops_still, turned_stops}
@@ -787,6 +787,19 @@ turns::solver_turns-turns-smaller-in-Ecma g t c =
     let step = stepped false (tells_nothing (g.K.Validate.is_whole m) s) in
     falls_turned (g.K.Validate.words false) m (g.K.Validate.absorbed m) (g.K.Validate.remaining m) (g.K.Validate.can_be false m) (g.K.Validate.ends false m) (g.K.Validate.fits false m) (g.met.K.Validate.turn_laws false m) s (c.turns.run, answer_of false c.turns.answer) (c.turn.new.run, answer_of false c.turn.new.answer) told (ecma text) c.turns.invariant.can turn step (ecma_goes_on text)
 
+pub turns::solver_turns-turns-smaller-in-IsSpanned : goal.turns::solver_turns-turns-smaller-in-IsSpanned
+turns::solver_turns-turns-smaller-in-IsSpanned g t c =
+    let set = solver_by g.K.Validate g.M.Matcher c.args.engine.now in
+    let s = subject_of c.args.question.now.instance in
+    let m = g.K.Validate.shape c.args.keyword.now.keyword.now in
+    let told = told_reply c.turns.told in
+    let turned = turned_by set s m (λ texts. (c.turns.run, answer_of texts c.turns.answer)) (λ texts. (c.turn.new.run, answer_of texts c.turn.new.answer)) (λ texts. reply_of texts c.reply_with-reply.result) (λ texts. told_reply c.turns.told) c.reply_with-reply.ensures.told c.in_ok-step.ensures.turns in
+    let turn = turned false (tells_nothing (g.K.Validate.is_whole m) s) in
+    let below = step_of c.in-IsSpanned.field-0 in
+    let stepped = stepped_by set s m (λ texts. (c.turns.run, answer_of texts c.turns.answer)) (λ texts. reply_of texts c.reply_with-reply.result) (λ texts. told_reply c.turns.told) (turn_of c.in_ok-step.step) (is_spanned below) c.reply_with-reply.ensures.told (ap turn_of c.in-IsSpanned.is) c.in_ok-step.ensures.steps in
+    let step = stepped false (tells_nothing (g.K.Validate.is_whole m) s) in
+    falls_turned (g.K.Validate.words false) m (g.K.Validate.absorbed m) (g.K.Validate.remaining m) (g.K.Validate.can_be false m) (g.K.Validate.ends false m) (g.K.Validate.fits false m) (g.met.K.Validate.turn_laws false m) s (c.turns.run, answer_of false c.turns.answer) (c.turn.new.run, answer_of false c.turn.new.answer) told (is_spanned below) c.turns.invariant.can turn step (span_goes_on below)
+
 pub turns::solver_turns-turns-preserved-in-Ecma : goal.turns::solver_turns-turns-preserved-in-Ecma
 turns::solver_turns-turns-preserved-in-Ecma g t c =
     let set = solver_by g.K.Validate g.M.Matcher c.args.engine.now in
@@ -808,6 +821,29 @@ turns::solver_turns-turns-preserved-in-Ecma g t c =
       asks = asks_on set m (g.K.Validate.absorbed m) (g.K.Validate.remaining m) (λ texts. g.K.Validate.can_be texts m) (λ texts. g.K.Validate.ends texts m) (λ texts. g.K.Validate.fits texts m) (λ texts. g.met.K.Validate.turn_laws texts m) s (c.turns.run, answer_of false c.turns.answer) (c.turn.new.run, answer_of false c.turn.new.answer) told (truth c.in_ok-valid-in-Ecma.valid) (ecma text) c.turns.invariant.can turn step (ecma_goes_on text) c.turns.invariant.asks;
       leads = leads_told set m (g.K.Validate.absorbed m) (g.K.Validate.remaining m) (λ texts. g.K.Validate.can_be texts m) (λ texts. g.K.Validate.ends texts m) (λ texts. g.K.Validate.fits texts m) (λ texts. g.met.K.Validate.turn_laws texts m) s keeps c.args.context.now p c.args.node.0 c.requires.may_ask.may es c.requires.may_ask.stands c.turns.context c.turns.leans c.turns.context.marking
           (λ texts. (c.turns.run, answer_of texts c.turns.answer)) (λ texts. (c.turn.new.run, answer_of texts c.turn.new.answer)) (λ texts. told_reply c.turns.told) text c.in_ok-valid-in-Ecma.valid turned stepped c.in_ok-valid-in-Ecma.ensures.valid c.turns.invariant.leads;
+    }
+
+pub turns::solver_turns-turns-preserved-in-IsSpanned : goal.turns::solver_turns-turns-preserved-in-IsSpanned
+turns::solver_turns-turns-preserved-in-IsSpanned g t c =
+    let set = solver_by g.K.Validate g.M.Matcher c.args.engine.now in
+    let p = steps_to c.args.question.now.place.now in
+    let s = subject_of c.args.question.now.instance in
+    let m = g.K.Validate.shape c.args.keyword.now.keyword.now in
+    let es = map (option_map edge_of) c.args.keyword.now.children.now in
+    let keeps : (texts : Bool) → KeepsUntold (g.K.Validate.words texts) = λ texts. record { laws = λ k. (g.K.Validate.absorbed k, keeps_of_turns (g.K.Validate.words texts) k (g.K.Validate.absorbed k) (g.K.Validate.remaining k) (g.K.Validate.can_be texts k) (g.K.Validate.ends texts k) (g.K.Validate.fits texts k) (g.met.K.Validate.turn_laws texts k) (g.met.K.Validate.function_laws texts k)); never = g.met.K.Validate.never_told texts } in
+    let told = told_reply c.turns.told in
+    let turned = turned_by set s m (λ texts. (c.turns.run, answer_of texts c.turns.answer)) (λ texts. (c.turn.new.run, answer_of texts c.turn.new.answer)) (λ texts. reply_of texts c.reply_with-reply.result) (λ texts. told_reply c.turns.told) c.reply_with-reply.ensures.told c.in_ok-step.ensures.turns in
+    let turn = turned false (tells_nothing (g.K.Validate.is_whole m) s) in
+    let went = c.turns.invariant.goes in
+    let below = step_of c.in-IsSpanned.field-0 in
+    let stepped = stepped_by set s m (λ texts. (c.turns.run, answer_of texts c.turns.answer)) (λ texts. reply_of texts c.reply_with-reply.result) (λ texts. told_reply c.turns.told) (turn_of c.in_ok-step.step) (is_spanned below) c.reply_with-reply.ensures.told (ap turn_of c.in-IsSpanned.is) c.in_ok-step.ensures.steps in
+    let step = stepped false (tells_nothing (g.K.Validate.is_whole m) s) in
+    record {
+      goes = went;
+      can = can_after (g.K.Validate.words false) m (g.K.Validate.absorbed m) (g.K.Validate.remaining m) (g.K.Validate.can_be false m) (g.K.Validate.ends false m) (g.K.Validate.fits false m) (g.met.K.Validate.turn_laws false m) s (c.turns.run, answer_of false c.turns.answer) (c.turn.new.run, answer_of false c.turn.new.answer) told c.turns.invariant.can turn;
+      asks = asks_on set m (g.K.Validate.absorbed m) (g.K.Validate.remaining m) (λ texts. g.K.Validate.can_be texts m) (λ texts. g.K.Validate.ends texts m) (λ texts. g.K.Validate.fits texts m) (λ texts. g.met.K.Validate.turn_laws texts m) s (c.turns.run, answer_of false c.turns.answer) (c.turn.new.run, answer_of false c.turn.new.answer) told (truth false) (is_spanned below) c.turns.invariant.can turn step (span_goes_on below) c.turns.invariant.asks;
+      leads = leads_span set m (g.K.Validate.absorbed m) (g.K.Validate.remaining m) (λ texts. g.K.Validate.can_be texts m) (λ texts. g.K.Validate.ends texts m) (λ texts. g.K.Validate.fits texts m) (λ texts. g.met.K.Validate.turn_laws texts m) s keeps c.args.context.now p c.args.node.0 c.requires.may_ask.may es c.requires.may_ask.stands c.turns.context c.turns.leans c.turns.context.marking
+          (λ texts. (c.turns.run, answer_of texts c.turns.answer)) (λ texts. (c.turn.new.run, answer_of texts c.turn.new.answer)) (λ texts. told_reply c.turns.told) below turned stepped c.turns.invariant.leads;
     }
 
 pub turns::solver_turns-turns-smaller-in-Mark : goal.turns::solver_turns-turns-smaller-in-Mark
